@@ -1,0 +1,5 @@
+pub mod Marks
+pub mod Pieces
+pub mod Whole
+pub mod Kept
+pub mod Answering

@@ -1,0 +1,5 @@
+pub mod Console
+pub mod Limits
+pub mod Lines
+pub mod Orders
+pub mod Texts

@@ -1,0 +1,4 @@
+pub mod Limits
+pub mod Numbering
+pub mod Registers
+pub mod Kept

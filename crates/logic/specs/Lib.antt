@@ -1,0 +1,10 @@
+pub mod Sets
+pub mod Rules
+pub mod Charts
+pub mod Trees
+pub mod Search
+pub mod Check
+pub mod Theorems
+pub mod Store
+pub mod Begun
+pub mod Examples

@@ -1,0 +1,9 @@
+pub mod CodeEarliest
+pub mod CodeLemmas
+pub mod CodePrint
+pub mod CodeUnique
+pub mod Heads
+pub mod Keyed
+pub mod LexUnique
+pub mod TextLemmas
+pub mod TextUnique

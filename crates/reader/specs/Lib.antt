@@ -1,0 +1,13 @@
+pub mod CodePrint
+pub mod Codes
+pub mod CodeSteps
+pub mod Faults
+pub mod Keyed
+pub mod Keys
+pub mod Lexemes
+pub mod Limits
+pub mod Outlines
+pub mod Text
+pub mod TextSteps
+pub mod Tree
+pub mod Written
