@@ -3,3 +3,4 @@ pub mod Pieces
 pub mod Whole
 pub mod Kept
 pub mod Answering
+pub mod Ordering

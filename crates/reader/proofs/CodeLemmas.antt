@@ -10,51 +10,21 @@ use lib.Seq.{getD-set-same, getD-set-other}
 use Rattle.reader.specs.declared.codes.Open.{Open}
 use Rattle.reader.specs.declared.outline.End.{End}
 use Rattle.reader.specs.declared.outline.Outline.{Outline}
+use Rattle.reader.specs.Limits.{deepest, most-bodies}
 use Rattle.reader.specs.Outlines.{mentions, ended, Outlines}
 use Rattle.reader.specs.Tree.{Rule, Rules, rule, none, _▸_, count, places, places-all, size-all, ends, ends-all}
 use Rattle.reader.specs.declared.fault.Reason.the-variants.{Misplaced, Ninth}
 use Rattle.reader.specs.declared.fault.ReaderFault.{ReaderFault}
 use Rattle.reader.specs.declared.codes.State.{State}
 use Rattle.reader.specs.declared.codes.State.the-variants.{Before, Head, Inside, After}
-use Rattle.reader.specs.Codes.{At, IsRule, coded, Bodies, nothing, another, Frame, Room, Left, start, inside, Offends, ninth, cut, cut-head, Refused, offends}
+use Rattle.reader.specs.CodeLeft.{left-few, left-deep, left-head, left-closed, left-ended}
+use Rattle.reader.specs.Codes.{At, Frame, Room, Left, inside, Offends, ninth, cut, cut-head, Refused, offends}
 use Rattle.reader.specs.declared.codes.CodeReader.{CodeReader}
 use Rattle.reader.specs.CodeSteps.{heads, head-places, body-ends, Holds, Tied, AtKind, InHead, Ended, input, Stands, StandsAt, Sound}
 
--- at most eight bodies
-pub bodies-few : {bs : List ℕ} {d i j : ℕ} {ts : Rules} → Bodies bs d i ts j → count ts ≤ 8
-bodies-few nothing = omega arith
-bodies-few (another b few r) = few
-
--- at most sixteen rules stand open
-room-deep : (fs : List Frame) → Room fs → suc (length fs) ≤ 16
-room-deep [] r = omega arith
-room-deep (f ∷ fs) r = r .0
-
-pub left-deep : {bs : List ℕ} {fs : List Frame} {p : ℕ} → Left bs fs p → length fs ≤ 16
-left-deep start = omega arith
-left-deep (inside {fs = fs} l r a b le) = room-deep fs r
-
--- the rule opened last has at most eight bodies
-pub left-few : {bs : List ℕ} {f : Frame} {fs : List Frame} {p : ℕ} → Left bs (f ∷ fs) p → count (f .so-far) ≤ 8
-left-few (inside l r a b le) = bodies-few b
-
--- no rule stands open at the start alone
-left-start : {bs : List ℕ} {p : ℕ} → Left bs [] p → p ≡ 0
-left-start start = refl
-
--- the head of the rule opened last has been read
-pub left-head : {bs : List ℕ} {fs : List Frame} {i : ℕ} → Left bs fs i → Room fs → At bs i 1 → i + 4 ≤ length bs → Left bs (record { from = i; so-far = none } ∷ fs) (i + 4)
-left-head l r a le = inside l r a nothing le
-
--- the rule opened last closes, inside another
-pub left-closed : {bs : List ℕ} {f g : Frame} {gs : List Frame} {p : ℕ} → Left bs (f ∷ g ∷ gs) p → At bs p 2 → Left bs (record { from = g .from; so-far = g .so-far ▸ rule (f .from) (f .so-far) } ∷ gs) (p + 1)
-left-closed {gs = gs} (inside (inside l′ r′ a′ b′ le′) r a b le) c =
-    inside l′ r′ a′ (another b′ (r .1) (coded (omega (arith, r .0)) a b c)) (omega (arith, c .0))
-
--- the whole rule closes
-pub left-ended : {bs : List ℕ} {f : Frame} {p : ℕ} → Left bs (f ∷ []) p → At bs p 2 → IsRule bs 1 0 (rule (f .from) (f .so-far)) (p + 1)
-left-ended {bs} {p = p} (inside {i = i} {ts = ts} l r a b le) c =
-    subst (λ k. IsRule bs 1 k (rule i ts) (p + 1)) (left-start l) (coded (omega arith) a b c)
+-- the rule around the one opened last has no body too many
+around-few : {bs : List ℕ} {f g : Frame} {gs : List Frame} {p : ℕ} → Left bs (f ∷ g ∷ gs) p → count (g .so-far) ≤ most-bodies
+around-few (inside l r a b le) = left-few l
 
 -- a write above what the stack holds
 holds-set : (os : List Open) (fs : List Frame) (i : ℕ) (x : Open) → length fs ≤ i → Holds os fs → Holds (set os i x) fs
@@ -64,7 +34,7 @@ holds-set os (f ∷ fs) i x le h =
     (getD-set-other os i (length fs) x _ ne ∙ h .0, holds-set os fs i x (omega arith) (h .1))
 
 -- a rule is opened
-pub tied-entered : (os : List Open) (depth p : ℕ) (o o′ : Outline) (fs : List Frame) (m : ℕ) → Tied os depth o fs → depth < length os → m ≡ o .mentioned → o′ .mentioned ≡ o .mentioned + 1 → mentions o′ ≡ mentions o ++ p ∷ [] → ended o′ ≡ ended o → o′ .ended ≡ o .ended → Tied (set os depth (record { mention = m; bodies = 0 })) (depth + 1) o′ (record { from = p; so-far = none } ∷ fs)
+pub tied-entered : (os : List Open) (depth p : ℕ) (o o′ : Outline) (fs : List Frame) (m : ℕ) → Tied os depth o fs → depth < length os → m ≡ o .mentioned → o′ .mentioned ≡ o .mentioned + 1 → mentions o′ ≡ mentions o ++ p ∷ [] → ended o′ ≡ ended o → o′ .ended ≡ o .ended → Tied (set os depth (record { mention = m; bodies = 0 })) (depth + 1) o′ (record { head = p; so-far = none } ∷ fs)
 tied-entered os depth p o o′ fs m t lt is more added same count-same = record {
   deep = omega (arith, t .deep);
   stack = (
@@ -98,7 +68,7 @@ pub next-is : (os : List Open) (depth : ℕ) (o : Outline) (f g : Frame) (gs : L
 next-is os depth o f g gs t = let e : depth - 1 - 1 ≡ length gs = omega (arith, t .deep) in ap (λ k. getD os k blank) e ∙ t .stack .1 .0
 
 -- the rule opened last closes, inside another
-pub tied-closed : (os : List Open) (depth : ℕ) (o o′ : Outline) (f g : Frame) (gs : List Frame) → Tied os depth o (f ∷ g ∷ gs) → depth - 1 - 1 < length os → o′ .mentioned ≡ o .mentioned → mentions o′ ≡ mentions o → o′ .ended ≡ o .ended + 1 → ended o′ ≡ ended o ++ end-of (getD os (depth - 1) blank) ∷ [] → Tied (set os (depth - 1 - 1) (one-more (getD os (depth - 1 - 1) blank))) (depth - 1) o′ (record { from = g .from; so-far = g .so-far ▸ rule (f .from) (f .so-far) } ∷ gs)
+pub tied-closed : (os : List Open) (depth : ℕ) (o o′ : Outline) (f g : Frame) (gs : List Frame) → Tied os depth o (f ∷ g ∷ gs) → depth - 1 - 1 < length os → o′ .mentioned ≡ o .mentioned → mentions o′ ≡ mentions o → o′ .ended ≡ o .ended + 1 → ended o′ ≡ ended o ++ end-of (getD os (depth - 1) blank) ∷ [] → Tied (set os (depth - 1 - 1) (one-more (getD os (depth - 1 - 1) blank))) (depth - 1) o′ (record { head = g .head; so-far = g .so-far ▸ rule (f .head) (f .so-far) } ∷ gs)
 tied-closed os depth o o′ f g gs t lt many same more added =
     let below : depth - 1 - 1 ≡ length gs = omega (arith, t .deep) in
     let number : heads gs + suc (size-all (g .so-far)) ≡ heads gs + 1 + size-all (g .so-far) = omega arith in
@@ -110,7 +80,7 @@ tied-closed os depth o o′ f g gs t lt many same more added =
         holds-set os gs (depth - 1 - 1) _ (omega arith) (t .stack .1 .1),
       );
       many = many ∙ t .many ∙ omega arith;
-      heads-are = same ∙ t .heads-are ∙ append-assoc (head-places gs) (g .from ∷ places-all (g .so-far)) (f .from ∷ places-all (f .so-far));
+      heads-are = same ∙ t .heads-are ∙ append-assoc (head-places gs) (g .head ∷ places-all (g .so-far)) (f .head ∷ places-all (f .so-far));
       unended = omega (arith, t .unended, t .deep);
       ends-are =
           added
@@ -121,27 +91,27 @@ tied-closed os depth o o′ f g gs t lt many same more added =
     }
 
 -- the whole rule closes
-pub outline-ended : (os : List Open) (depth : ℕ) (o o′ : Outline) (f : Frame) → Tied os depth o (f ∷ []) → mentions o′ ≡ mentions o → ended o′ ≡ ended o ++ end-of (getD os (depth - 1) blank) ∷ [] → Outlines (rule (f .from) (f .so-far)) o′
+pub outline-ended : (os : List Open) (depth : ℕ) (o o′ : Outline) (f : Frame) → Tied os depth o (f ∷ []) → mentions o′ ≡ mentions o → ended o′ ≡ ended o ++ end-of (getD os (depth - 1) blank) ∷ [] → Outlines (rule (f .head) (f .so-far)) o′
 outline-ended os depth o o′ f t same added = record {
   heads = same ∙ t .heads-are;
   rules = added ∙ ap (λ l. l ++ end-of (getD os (depth - 1) blank) ∷ []) (t .ends-are) ∙ ap (λ x. body-ends (f ∷ []) ++ end-of x ∷ []) (top-is os depth o f [] t);
 }
 
 -- there is room for one more rule where neither limit is met
-pub room : (os : List Open) (depth : ℕ) (o : Outline) (bs : List ℕ) (p : ℕ) (fs : List Frame) → AtKind bs os depth o p fs → depth ≢ 16 → (0 < depth → getD os (depth - 1) blank .bodies ≢ 8) → Room fs
+pub room : (os : List Open) (depth : ℕ) (o : Outline) (bs : List ℕ) (p : ℕ) (fs : List Frame) → AtKind bs os depth o p fs → depth ≢ deepest → (0 < depth → getD os (depth - 1) blank .bodies ≢ most-bodies) → Room fs
 room os depth o bs p [] k deep nine = tt
 room os depth o bs p (f ∷ fs) k deep nine =
     let le = left-deep (k .left) in
     let d = k .tied .deep in
     let few = left-few (k .left) in
-    let ne : count (f .so-far) ≢ 8 = λ e. nine (omega arith) (ap (λ x. x .bodies) (top-is os depth o f fs (k .tied)) ∙ e) in
+    let ne : count (f .so-far) ≢ most-bodies = λ e. nine (omega arith) (ap (λ x. x .bodies) (top-is os depth o f fs (k .tied)) ∙ e) in
     (omega arith, omega arith)
 
 -- closing the whole rule
 pub closes-whole : (bs : List ℕ) (os : List Open) (depth : ℕ) (o o′ : Outline) (p : ℕ) (fs : List Frame) → AtKind bs os depth o p fs → At bs p 2 → 0 < depth → depth - 1 ≡ 0 → mentions o′ ≡ mentions o → ended o′ ≡ ended o ++ end-of (getD os (depth - 1) blank) ∷ [] → Ended bs o′ (p + 1)
 closes-whole bs os depth o o′ p [] k c more zero-not same added = absurd (omega (arith, k .tied .deep))
 closes-whole bs os depth o o′ p (f ∷ []) k c more zero-not same added = record {
-  tree = rule (f .from) (f .so-far);
+  tree = rule (f .head) (f .so-far);
   reads = left-ended (k .left) c;
   outlines = outline-ended os depth o o′ f (k .tied) same added;
 }
@@ -161,17 +131,19 @@ closes-body bs os depth o o′ p (f ∷ g ∷ gs) k c more zero-not lt many same
   },
 )
 
--- the rule around the one that closes has fewer than nine bodies
-pub next-few : (bs : List ℕ) (os : List Open) (depth : ℕ) (o : Outline) (p : ℕ) (fs : List Frame) → AtKind bs os depth o p fs → 0 < depth → depth - 1 ≢ 0 → getD os (depth - 1 - 1) blank .bodies ≤ 8
+-- the rule around the one that closes has no body too many
+pub next-few : (bs : List ℕ) (os : List Open) (depth : ℕ) (o : Outline) (p : ℕ) (fs : List Frame) → AtKind bs os depth o p fs → 0 < depth → depth - 1 ≢ 0 → getD os (depth - 1 - 1) blank .bodies ≤ most-bodies
 next-few bs os depth o p [] k more zero-not = absurd (omega (arith, k .tied .deep))
 next-few bs os depth o p (f ∷ []) k more zero-not = absurd (zero-not (omega (arith, k .tied .deep)))
-next-few bs os depth o p (f ∷ g ∷ gs) k more zero-not = rw (next-is os depth o f g gs (k .tied)) (around (k .left))
-  where
-    around : {i : ℕ} → Left bs (f ∷ g ∷ gs) i → count (g .so-far) ≤ 8
-    around (inside l r a b le) = left-few l
+next-few bs os depth o p (f ∷ g ∷ gs) k more zero-not = rw (next-is os depth o f g gs (k .tied)) (around-few (k .left))
 
--- the ninth body
-pub ninth-is : (bs : List ℕ) (os : List Open) (depth : ℕ) (o : Outline) (p : ℕ) (fs : List Frame) → AtKind bs os depth o p fs → At bs p 1 → 0 < depth → depth ≢ 16 → getD os (depth - 1) blank .bodies ≡ 8 → Offends bs Ninth p
+-- the rule opened last has no body too many
+pub top-few : (bs : List ℕ) (os : List Open) (depth : ℕ) (o : Outline) (p : ℕ) (fs : List Frame) → AtKind bs os depth o p fs → 0 < depth → getD os (depth - 1) blank .bodies ≤ most-bodies
+top-few bs os depth o p [] k more = absurd (omega (arith, k .tied .deep))
+top-few bs os depth o p (f ∷ fs) k more = rw (top-is os depth o f fs (k .tied)) (left-few (k .left))
+
+-- a body too many
+pub ninth-is : (bs : List ℕ) (os : List Open) (depth : ℕ) (o : Outline) (p : ℕ) (fs : List Frame) → AtKind bs os depth o p fs → At bs p 1 → 0 < depth → depth ≢ deepest → getD os (depth - 1) blank .bodies ≡ most-bodies → Offends bs Ninth p
 ninth-is bs os depth o p [] k a more deep is = absurd (omega (arith, k .tied .deep))
 ninth-is bs os depth o p (f ∷ fs) k a more deep is =
     let le = left-deep (k .left) in
@@ -182,10 +154,10 @@ ninth-is bs os depth o p (f ∷ fs) k a more deep is =
 pub head-read : (bs : List ℕ) (os : List Open) (depth : ℕ) (o : Outline) (p : ℕ) → InHead bs os depth o p 1 → p < length bs → (f : Frame) × (fs : List Frame) × AtKind bs os depth o (p + 1) (f ∷ fs)
 head-read bs os depth o p h lt =
     let e : h .from + 4 ≡ p + 1 = sym (h .at) in (
-      record { from = h .from; so-far = none },
+      record { head = h .from + 1; so-far = none },
       h .frames,
       record {
-        left = subst (λ k. Left bs (record { from = h .from; so-far = none } ∷ h .frames) k) e (left-head (h .left) (h .room) (h .opens) (omega arith));
+        left = subst (λ k. Left bs (record { head = h .from + 1; so-far = none } ∷ h .frames) k) e (left-head (h .left) (h .room) (h .opens) (omega arith));
         tied = h .tied;
         few = h .few;
       },
@@ -221,10 +193,10 @@ goes-on r r′ s lt same here stands = (
 )
 
 -- the input ends before the rule does
-pub cut-short : (r : CodeReader) (s : State) → Sound r → length (input r) ≤ r .place → r .state ≡ s → (s ≡ After → ⊥) → Offends (input r) Misplaced (r .place)
-cut-short r s sound over is open-still =
+cut-short : (r : CodeReader) → Sound r → length (input r) ≤ r .place → (r .state ≡ After → ⊥) → Offends (input r) Misplaced (r .place)
+cut-short r sound over open-still =
     let e : r .place ≡ length (input r) = omega (arith, sound .within) in
-    rw e (go s (subst (λ p. Stands (input r) (r .stack) (r .depth) (r .outline) p s) e (subst (λ t. Stands (input r) (r .stack) (r .depth) (r .outline) (r .place) t) is (sound .stands))) open-still)
+    rw e (go (r .state) (subst (StandsAt r) e (sound .stands)) open-still)
   where
     go : (s : State) → Stands (input r) (r .stack) (r .depth) (r .outline) (length (input r)) s → (s ≡ After → ⊥) → Offends (input r) Misplaced (length (input r))
     go Before h _ = cut (h .left)
@@ -233,7 +205,7 @@ cut-short r s sound over is open-still =
     go After h no-more = absurd (no-more refl)
 
 -- it is refused for that
-pub refused-short : (bs : List ℕ) (r : CodeReader) (s : State) (f : ReaderFault) → Sound r → input r ≡ bs → length bs ≤ r .place → r .state ≡ s → (s ≡ After → ⊥) → f ≡ record { reason = Misplaced; place = r .place } → Refused bs (f .reason) (f .place)
-refused-short bs r s f sound same over is open-still says =
-    let out = cut-short r s sound (rw same over) is open-still in
+pub refused-short : (bs : List ℕ) (r : CodeReader) (f : ReaderFault) → Sound r → input r ≡ bs → length bs ≤ r .place → (r .state ≡ After → ⊥) → f ≡ record { reason = Misplaced; place = r .place } → Refused bs (f .reason) (f .place)
+refused-short bs r f sound same over open-still says =
+    let out = cut-short r sound (rw same over) open-still in
     rw says (offends (rw same at (sound .short)) (rw same at out))

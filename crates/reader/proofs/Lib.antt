@@ -1,9 +1,15 @@
 pub mod CodeEarliest
+pub mod CodeHeads
 pub mod CodeLemmas
 pub mod CodePrint
 pub mod CodeUnique
+pub mod FewBodies
 pub mod Heads
 pub mod Keyed
 pub mod LexUnique
+pub mod NameBytes
+pub mod Readings
+pub mod TextAnswer
+pub mod TextEarliest
 pub mod TextLemmas
 pub mod TextUnique

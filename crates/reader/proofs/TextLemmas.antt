@@ -15,7 +15,8 @@ use Rattle.reader.specs.declared.lexer.Lexeme.{Lexeme}
 use Rattle.reader.specs.declared.outline.End.{End}
 use Rattle.reader.specs.declared.outline.Outline.{Outline}
 use Rattle.reader.specs.declared.text.TextReader.{TextReader}
-use Rattle.reader.specs.Lexemes.{Is, Lexes}
+use Rattle.reader.specs.Lexemes.{Is, Lexed, Lexes}
+use Rattle.reader.specs.LexTotal.{end-within}
 use Rattle.reader.specs.Limits.{deepest, most-bodies, most-heads}
 use Rattle.reader.specs.Outlines.{mentions, ended}
 use Rattle.reader.specs.Text.{Follows, IsRule, bare, ruled, Bodies, one, another, IsBody, name, bracket, Stops, BadRule, first, later, BadBody, within, unclosed}
@@ -33,33 +34,37 @@ start-within bs Long s e i = omega (arith, i .0 .some, i .0 .within)
 start-within bs Stray s e i = omega (arith, i .0 .within)
 start-within bs Finish s e i = omega (arith, i .0)
 
--- a word or mark that a rule can hold
+-- a kind of word or mark that takes some bytes
 abbrev pub Solid : Token → Type 0
-Solid k = (k ≡ Open) ⊎ (k ≡ Close) ⊎ (k ≡ Comma) ⊎ (k ≡ If) ⊎ (k ≡ Name)
+Solid Open = Unit {0}
+Solid Close = Unit {0}
+Solid Comma = Unit {0}
+Solid If = Unit {0}
+Solid Name = Unit {0}
+Solid Long = Unit {0}
+Solid Stray = ⊥
+Solid Finish = ⊥
+
+is-some : (bs : List ℕ) (k : Token) (s e : ℕ) → Solid k → Is bs k s e → s < e
+is-some bs Open s e t i = omega (arith, i .1)
+is-some bs Close s e t i = omega (arith, i .1)
+is-some bs Comma s e t i = omega (arith, i .1)
+is-some bs If s e t i = i .0 .some
+is-some bs Name s e t i = i .0 .some
+is-some bs Long s e t i = i .0 .some
+is-some bs Stray s e t i = absurd t
+is-some bs Finish s e t i = absurd t
+
+pub takes : (bs : List ℕ) (k : Token) → Solid k → (l : Lexeme) → l .token ≡ k → Lexed bs l → l .start < l .end
+takes bs k t l e i = is-some bs k (l .start) (l .end) t (subst (λ x. Is bs x (l .start) (l .end)) e i)
 
 -- the next word or mark of the reader takes some bytes of the input
 pub record Takes (r : TextReader) : Type 0 where
   pub some : r .next .start < r .next .end
   pub within : r .next .end ≤ length (input r)
 
--- the reader's next token is known
-at-token : (r : TextReader) (k : Token) → Sound r → r .next .token ≡ k → Is (input r) k (r .next .start) (r .next .end)
-at-token r k s is = subst (λ t. Is (input r) t (r .next .start) (r .next .end)) is (s .next)
-
-pub takes-open : (r : TextReader) → Sound r → r .next .token ≡ Open → Takes r
-takes-open r s is = let i = at-token r Open s is in record { some = omega (arith, i .1); within = omega (arith, i .1, i .0 .0) }
-
-pub takes-close : (r : TextReader) → Sound r → r .next .token ≡ Close → Takes r
-takes-close r s is = let i = at-token r Close s is in record { some = omega (arith, i .1); within = omega (arith, i .1, i .0 .0) }
-
-pub takes-comma : (r : TextReader) → Sound r → r .next .token ≡ Comma → Takes r
-takes-comma r s is = let i = at-token r Comma s is in record { some = omega (arith, i .1); within = omega (arith, i .1, i .0 .0) }
-
-pub takes-if : (r : TextReader) → Sound r → r .next .token ≡ If → Takes r
-takes-if r s is = let i = at-token r If s is in record { some = i .0 .some; within = i .0 .within }
-
-pub takes-name : (r : TextReader) → Sound r → r .next .token ≡ Name → Takes r
-takes-name r s is = let i = at-token r Name s is in record { some = i .0 .some; within = i .0 .within }
+pub takes-next : (r : TextReader) (k : Token) → Solid k → Sound r → r .next .token ≡ k → Takes r
+takes-next r k t s is = record { some = takes (input r) k t (r .next) is (s .next); within = end-within (input r) (r .next .token) (r .next .start) (r .next .end) (s .next) }
 
 -- the reader has gone on by one word or mark
 pub record Advanced (r a : TextReader) : Type 0 where
@@ -80,7 +85,7 @@ advanced-fresh r a s few t adv = record {
 -- a head was read
 pub after-head : (n : ℕ) (r e : TextReader) → Fresh r → input e ≡ input r → ReadHead n r e → Sound e × (2 * e .outline .mentioned ≤ e .next .start + 1)
 after-head n r e f same h =
-    let t = takes-name r (f .sound) (h .named) in (
+    let t = takes-next r Name tt (f .sound) (h .named) in (
       record {
         short = rw same (f .sound .short);
         next = rw same (h .follows .what);
@@ -116,8 +121,8 @@ pub loop-takes : (d : ℕ) (e r : TextReader) (n : ℕ) → Looping d e r n true
 loop-takes d e r n l = go (l .so-far)
   where
     go : SoFar d e r n true → Takes r
-    go (not-yet is zero-is t f) = takes-if r (l .sound) (ap (λ x. x .next .token) is ∙ t refl)
-    go (some i f bodies n-is adds t g) = takes-comma r (l .sound) (t refl)
+    go (not-yet is zero-is t f) = takes-next r If tt (l .sound) (ap (λ x. x .next .token) is ∙ t refl)
+    go (some i f bodies n-is adds t g) = takes-next r Comma tt (l .sound) (t refl)
 
 pub loop-few : (d : ℕ) (e r : TextReader) (n : ℕ) (more : Bool) → Looping d e r n more → n ≤ most-bodies
 loop-few d e r n more l = so-far-few (l .so-far)
@@ -285,7 +290,7 @@ pub body-closed : (rest : ℕ) (s a b z : TextReader) → 0 < rest → rest < de
 body-closed rest s a b z below most is adv same-b r closed adv-z =
     let e : deepest - (rest - 1) ≡ suc (deepest - rest) = omega arith in
     let reads : IsRule (input a) (suc (deepest - rest)) (a .next) (r .tree) (b .next) = subst (λ d. IsRule (input a) d (a .next) (r .tree) (b .next)) e (r .reads) in
-    let t = takes-close b (r .sound) closed in
+    let t = takes-next b Close tt (r .sound) closed in
     let fresh = advanced-fresh b z (r .sound) (r .few) t adv-z in
     record {
       tree = r .tree;

@@ -62,6 +62,10 @@ Is bs Long s e = Word bs s e × (s + name-bytes < e)
 Is bs Stray s e = Unknown bs s × (e ≡ s)
 Is bs Finish s e = (s ≡ length bs) × (e ≡ s)
 
+-- l is a word or mark of the text
+abbrev pub Lexed : List ℕ → Lexeme → Type 0
+Lexed bs l = Is bs (l .token) (l .start) (l .end)
+
 -- the bytes from i up to j are spaces
 abbrev pub Spaces : List ℕ → ℕ → ℕ → Type 0
 Spaces bs i j = (k : ℕ) → i ≤ k → k < j → getD bs k 0 ≡ 32

@@ -1,18 +1,27 @@
-//! Reads a rule in its binary form.
+//! Reads a rule in codes.
 use crate::fault::ReaderFault;
 use crate::fault::Reason;
+use crate::limits::BODIES;
+use crate::limits::DEPTH;
+use crate::limits::RULE_BYTES;
 use crate::outline::Outline;
 ghost use mathlib.Core.Path.{_≡_};
 ghost use Prim.Native.Nat.{ℕ, _+_, _<_, _≤_};
 ghost use lib.ListN.{length};
 ghost use Rattle.std.specs.Results.{Cases};
-ghost use Rattle.reader.specs.Codes.{Reads, Refused, Offends};
+ghost use Rattle.reader.specs.Limits.{rule-bytes};
+ghost use Rattle.reader.specs.Codes.{Reads-as, Refused, Offends};
 ghost use Rattle.reader.specs.CodeSteps.{input, StandsAt, Sound, Ready};
+
+pub mod laws;
 
 /// The kind byte that opens a rule.
 const OPEN: u8 = 1;
 /// The kind byte that closes the rule opened last.
 const CLOSE: u8 = 2;
+
+/// How many bytes a head has.
+const HEAD: u8 = 3;
 
 /// What the next byte is.
 #[derive(Clone, Copy)]
@@ -34,19 +43,21 @@ struct Open {
     bodies: u8,
 }
 
+/// A reader that has read the bytes before `place`, with the rules that stand open, the one opened last on top.
 #[derive(Drop)]
 struct CodeReader<'a> {
     bytes: &'a [u8],
     place: usize,
     state: State,
-    stack: [Open; 16],
+    stack: [Open; DEPTH],
     depth: usize,
     outline: Outline,
 }
 
 impl<'a> CodeReader<'a> {
+    /// A reader that has read nothing.
     fn new(bytes: &'a [u8]) -> CodeReader<'a>
-        requires { ⌜ length (now bytes) ≤ 1024 ⌝ }
+        requires { ⌜ length (now bytes) ≤ rule-bytes ⌝ }
         ensures sound { λ r. ⌜ Sound r ⌝ }
         ensures input { λ r. ⌜ input r ≡ now (bytes .entry) ⌝ }
     {
@@ -57,12 +68,13 @@ impl<'a> CodeReader<'a> {
             stack: [Open {
                 mention: 0,
                 bodies: 0,
-            }; 16],
+            }; DEPTH],
             depth: 0,
             outline: Outline::new(),
         }
     }
 
+    /// A refusal at the next byte.
     fn fault(&self, reason: Reason) -> ReaderFault
         ensures { λ r. ⌜ r ≡ record { reason = reason; place = now (self .entry) .place } ⌝ }
     {
@@ -79,16 +91,16 @@ impl<'a> CodeReader<'a> {
         ensures place { λ r. ⌜ now (self .exit) .place ≡ now (self .entry) .place ⌝ }
         ensures cases { λ r. ⌜ Cases r (λ _. StandsAt (now (self .exit)) (now (self .entry) .place + 1)) (λ f. Offends (input (now (self .entry))) (f .reason) (f .place)) ⌝ }
     {
-        if self.depth == 16 {
+        if self.depth == DEPTH {
             return Err(self.fault(Reason::Deep));
         }
-        if self.depth > 0 && self.stack[self.depth - 1].bodies == 8 {
+        if self.depth > 0 && self.stack[self.depth - 1].bodies == BODIES {
             return Err(self.fault(Reason::Ninth));
         }
-        let mention = self.outline.mention(self.place);
+        let mention = self.outline.mention(self.place + 1);
         self.stack[self.depth] = Open { mention, bodies: 0 };
         self.depth += 1;
-        self.state = State::Head(3);
+        self.state = State::Head(HEAD);
         Ok(())
     }
 
@@ -138,13 +150,13 @@ impl<'a> CodeReader<'a> {
 }
 
 /// Reads one rule, or says what is wrong with it and where.
-pub fn read(bytes: &[u8]) -> Result<Outline, ReaderFault>
-    ensures { λ r. ⌜ Cases r (λ o. Reads (now (bytes .entry)) o) (λ f. Refused (now (bytes .entry)) (f .reason) (f .place)) ⌝ }
+pub fn read_codes(bytes: &[u8]) -> Result<Outline, ReaderFault>
+    ensures { λ r. ⌜ Cases r (λ o. Reads-as (now (bytes .entry)) o) (λ f. Refused (now (bytes .entry)) (f .reason) (f .place)) ⌝ }
 {
-    if bytes.len() > 1024 {
+    if bytes.len() > RULE_BYTES {
         return Err(ReaderFault {
             reason: Reason::Oversize,
-            place: 1024,
+            place: RULE_BYTES,
         });
     }
     let mut reader = CodeReader::new(bytes);
@@ -153,9 +165,7 @@ pub fn read(bytes: &[u8]) -> Result<Outline, ReaderFault>
     }
     match reader.state {
         State::After => Ok(reader.outline),
-        State::Before => Err(reader.fault(Reason::Misplaced)),
-        State::Head(_) => Err(reader.fault(Reason::Misplaced)),
-        State::Inside => Err(reader.fault(Reason::Misplaced)),
+        _ => Err(reader.fault(Reason::Misplaced)),
     }
 }
 
@@ -168,19 +178,25 @@ mod tests {
     use crate::outline::EndPartialEq;
     use std::test::*;
 
+    // The fault with which the codes are refused, if they are.
     fn refusal(codes: &[u8]) -> Option<ReaderFault> {
-        match read(codes) {
+        match read_codes(codes) {
             Ok(_) => None,
             Err(fault) => Some(fault),
         }
     }
 
+    // Checks why and where the codes are refused.
+    fn refused(codes: &[u8], reason: Reason, place: usize) -> Result<(), Fail> {
+        check_eq(refusal(codes), Some(ReaderFault { reason, place }))
+    }
+
     #[test]
     fn reads_a_rule() -> Result<(), Fail> {
-        let Ok(outline) = read(&[1, 0, 1, 2, 1, 0, 2, 1, 2, 2]) else {
+        let Ok(outline) = read_codes(&[1, 0, 1, 2, 1, 0, 2, 1, 2, 2]) else {
             return Err(Fail::new("refused"));
         };
-        check(outline.places() == [0, 4].as_slice())?;
+        check(outline.places() == [1, 5].as_slice())?;
         check(
             outline.ends()
                 == [
@@ -197,41 +213,47 @@ mod tests {
     }
 
     #[test]
-    fn refuses() -> Result<(), Fail> {
-        check_eq(
-            refusal(&[]),
-            Some(ReaderFault {
-                reason: Reason::Misplaced,
-                place: 0,
-            }),
-        )?;
-        check_eq(
-            refusal(&[2]),
-            Some(ReaderFault {
-                reason: Reason::Misplaced,
-                place: 0,
-            }),
-        )?;
-        check_eq(
-            refusal(&[1, 0, 0]),
-            Some(ReaderFault {
-                reason: Reason::Misplaced,
-                place: 3,
-            }),
-        )?;
-        check_eq(
-            refusal(&[1, 0, 0, 0, 3]),
-            Some(ReaderFault {
-                reason: Reason::Misplaced,
-                place: 4,
-            }),
-        )?;
-        check_eq(
-            refusal(&[1, 0, 0, 0, 2, 2]),
-            Some(ReaderFault {
-                reason: Reason::Misplaced,
-                place: 5,
-            }),
-        )
+    fn misses_what_is_cut_off() -> Result<(), Fail> {
+        let codes = [1, 0, 1, 2, 1, 0, 2, 1, 2, 2];
+        for cut in 0..10 {
+            refused(&codes[0..cut], Reason::Misplaced, cut)?;
+        }
+        Ok(())
+    }
+
+    #[test]
+    fn refuses_bytes_that_cannot_stand() -> Result<(), Fail> {
+        refused(&[2], Reason::Misplaced, 0)?;
+        refused(&[1, 0, 0, 0, 3, 2], Reason::Misplaced, 4)?;
+        refused(&[1, 0, 0, 0, 2, 2], Reason::Misplaced, 5)
+    }
+
+    #[test]
+    fn keeps_the_depth() -> Result<(), Fail> {
+        let mut codes = [2; 80];
+        for i in 0..16 {
+            codes[4 * i] = 1;
+        }
+        check(refusal(&codes).is_none())?;
+        codes[64] = 1;
+        refused(&codes, Reason::Deep, 64)
+    }
+
+    #[test]
+    fn keeps_the_bodies() -> Result<(), Fail> {
+        let mut codes = [2; 45];
+        codes[0] = 1;
+        for i in 0..8 {
+            codes[4 + 5 * i] = 1;
+        }
+        check(refusal(&codes).is_none())?;
+        codes[44] = 1;
+        refused(&codes, Reason::Ninth, 44)
+    }
+
+    #[test]
+    fn keeps_the_size() -> Result<(), Fail> {
+        refused(&[1; 1024], Reason::Deep, 64)?;
+        refused(&[1; 1025], Reason::Oversize, 1024)
     }
 }

@@ -35,12 +35,14 @@ pub struct Lexeme {
     pub end: usize,
 }
 
+/// Whether the byte is a lower-case letter.
 fn is_letter(byte: u8) -> bool
     ensures { λ r. ⌜ r ≡ letter byte ⌝ }
 {
     byte >= b'a' && byte <= b'z'
 }
 
+/// Whether the byte may stand in a word.
 fn is_wordly(byte: u8) -> bool
     ensures { λ r. ⌜ r ≡ wordly byte ⌝ }
 {

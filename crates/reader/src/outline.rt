@@ -1,7 +1,9 @@
 //! The outline of a rule: its heads in the order of the input, and its rules in the order in which they end.
 use crate::limits::HEADS;
-ghost use Prim.Native.Nat.{_≤_};
-ghost use Rattle.reader.specs.Limits.{most-heads};
+ghost use Prim.Native.Nat.{ℕ, _<_, _≤_};
+ghost use lib.ListN.{length, getD};
+ghost use mathlib.Core.Path.{_≡_};
+ghost use Rattle.reader.specs.Limits.{most-heads, most-bodies};
 
 mod build;
 mod view;
@@ -21,4 +23,5 @@ pub struct Outline {
     ends: [End; HEADS],
     ended: usize,
     ghost fits: { (mentioned ≤ most-heads) × (ended ≤ most-heads) },
+    ghost few: { (i : ℕ) → i < ended → getD ends i (record { mention = 0; bodies = 0 }) .bodies ≤ most-bodies },
 }

@@ -20,6 +20,7 @@ ghost use Rattle.reader.specs.Limits.{rule-bytes, deepest, most-bodies};
 ghost use Rattle.reader.specs.Text.{Follows, Begins, BadRule, BadBody, Reads-as, Refused};
 ghost use Rattle.reader.specs.TextSteps.{input, Sound, Fresh, ReadHead, ReadRule, ReadBody};
 
+/// A reader that stands at its next word or mark, with the outline of what it has read.
 #[derive(Drop)]
 struct TextReader<'a> {
     bytes: &'a [u8],
@@ -28,6 +29,7 @@ struct TextReader<'a> {
 }
 
 impl<'a> TextReader<'a> {
+    /// A reader that has read nothing.
     fn new(bytes: &'a [u8]) -> TextReader<'a>
         requires { ⌜ length (now bytes) ≤ rule-bytes ⌝ }
         ensures input { λ r. ⌜ input r ≡ now (bytes .entry) ⌝ }

@@ -1,50 +1,73 @@
 //! The console program: reads lines from standard input, and prints a line for each.
-use console::desk::Console;
-use console::line::Line;
+mod input;
+
+use console::Line;
+use console::Printed;
+use console::Seal;
+use console::answer_draft;
+use console::answer_sealed;
+use console::limits::SLOTS;
+use console::seal_draft;
+use input::Input;
+use reader::Name;
+use reader::NameKey;
+use reader::NameWritten;
+use service::Draft;
+use service::Sealed;
 use std::io;
-use std::io::Read;
 use std::io::Write;
 
-/// How many bytes are read at a time.
-const CHUNK: usize = 4_096;
-
-/// Answers the line that was taken in, and makes room for the next.
-fn answer(rt: &LibcRuntime, console: &mut Console, line: &mut Line) -> io::Result<()> {
-    let printed = console.answer(line);
-    line.clear();
+fn print(rt: &LibcRuntime, printed: &Printed) -> io::Result<()> {
     rt.stdout().write_all(printed.as_bytes())
 }
 
-/// Takes in some bytes, and answers each line that ends among them.
-fn take_in(
+/// Answers lines until the order to seal the book; false where the input ends before it.
+fn answer_until_seal(
     rt: &LibcRuntime,
-    console: &mut Console,
-    line: &mut Line,
-    bytes: &[u8],
-) -> io::Result<()> {
-    for byte in bytes {
-        if *byte == b'\n' {
-            answer(rt, console, line)?;
-        } else {
-            line.push(*byte);
+    input: &mut Input,
+    draft: &mut Draft<'_, Name>,
+) -> io::Result<bool> {
+    let mut line = Line::new();
+    for _ in 0..u64::MAX {
+        if !input.next_line(rt, &mut line)? {
+            return Ok(false);
         }
+        match answer_draft(draft, &line) {
+            Some(printed) => print(rt, &printed)?,
+            None => return Ok(true),
+        }
+    }
+    Ok(false)
+}
+
+/// Answers lines until the input ends.
+fn answer_until_end(
+    rt: &LibcRuntime,
+    input: &mut Input,
+    sealed: &mut Sealed<'_, Name>,
+) -> io::Result<()> {
+    let mut line = Line::new();
+    for _ in 0..u64::MAX {
+        if !input.next_line(rt, &mut line)? {
+            return Ok(());
+        }
+        let printed = answer_sealed(sealed, &line);
+        print(rt, &printed)?;
     }
     Ok(())
 }
 
 fn main(rt: LibcRuntime) -> io::Result<()> {
-    let mut console = Console::new();
-    let mut line = Line::new();
-    let mut chunk = [0u8; CHUNK];
-    for _ in 0..u64::MAX {
-        let count = rt.stdin().read(&mut chunk)?;
-        if count == 0 {
-            break;
-        }
-        take_in(&rt, &mut console, &mut line, &chunk[0..count])?;
+    let mut slots = [Name::new(b""); SLOTS];
+    let mut draft = Draft::new(&mut slots);
+    let mut input = Input::new();
+    if !answer_until_seal(&rt, &mut input, &mut draft)? {
+        return Ok(());
     }
-    if !line.is_empty() {
-        answer(&rt, &mut console, &mut line)?;
-    }
-    Ok(())
+    let Seal {
+        mut sealed,
+        printed,
+    } = seal_draft(draft);
+    print(&rt, &printed)?;
+    answer_until_end(&rt, &mut input, &mut sealed)
 }

@@ -5,7 +5,7 @@ use crate::limits::HEADS;
 ghost use mathlib.Core.Path.{_≡_};
 ghost use mathlib.Core.List.{[], _∷_, _++_};
 ghost use Prim.Native.Nat.{ℕ, _+_, _<_, _≤_};
-ghost use Rattle.reader.specs.Limits.{rule-bytes, most-heads};
+ghost use Rattle.reader.specs.Limits.{rule-bytes, most-heads, most-bodies};
 ghost use Rattle.reader.specs.Outlines.{mentions, ended};
 
 impl Outline {
@@ -41,7 +41,7 @@ impl Outline {
 
     /// Adds a rule that has ended.
     pub(crate) fn end(&mut self, mention: u16, bodies: u8)
-        requires { ⌜ now self .ended < most-heads ⌝ }
+        requires { ⌜ now self .ended < most-heads ⌝ ∗ ⌜ bodies ≤ most-bodies ⌝ }
         ensures count { λ r. ⌜ now (self .exit) .ended ≡ now (self .entry) .ended + 1 ⌝ }
         ensures added { λ r. ⌜ ended (now (self .exit)) ≡ ended (now (self .entry)) ++ record { mention = mention; bodies = bodies } ∷ [] ⌝ }
         ensures same { λ r. ⌜ mentions (now (self .exit)) ≡ mentions (now (self .entry)) ⌝ ∗ ⌜ now (self .exit) .mentioned ≡ now (self .entry) .mentioned ⌝ }

@@ -10,7 +10,7 @@ use Rattle.reader.specs.declared.text.TextReader.{TextReader}
 use Rattle.reader.specs.Limits.{deepest}
 use Rattle.reader.specs.Text.{BadBody, no-body, long-body}
 use Rattle.reader.specs.TextSteps.{input}
-use Rattle.reader.proofs.TextLemmas.{Looping, Advanced, EndAdded, advanced-fresh, takes-open, loop-takes, loop-few, loop-room, loop-again, loop-bad, loop-over, loop-starts, told, body-bad, body-unclosed, body-closed, body-name}
+use Rattle.reader.proofs.TextLemmas.{Looping, Advanced, EndAdded, advanced-fresh, loop-takes, loop-few, loop-room, loop-again, loop-bad, loop-over, loop-starts, told, body-bad, body-unclosed, body-closed, body-name}
 use Rattle.reader.proofs.text.TextReader.+body+rule.Needs as need
 
 pub body-returns-in-Break-rule : need.body-returns-in-Break-rule
@@ -98,7 +98,7 @@ rule-loop-more-again t c =
     loop-again _ _ (c .loop-more .self) (c .advance .last .self) _ _ _ (going _ _ _ _ _ (c .loop-more-test .taken) l) adv (read .input) (read .cases .0) (read .cases .1) (more .0) (more .1)
 
 pub rule-end-requires : need.rule-end-requires
-rule-end-requires t c κs = loop-room _ _ _ _ _ (c .loop-more .inv)
+rule-end-requires t c κs = (loop-room _ _ _ _ _ (c .loop-more .inv), loop-few _ _ _ _ _ (c .loop-more .inv))
 
 pub rule-returns : need.rule-returns
 rule-returns t c =

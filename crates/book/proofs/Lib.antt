@@ -1,0 +1,15 @@
+pub mod Masks
+pub mod Listing
+pub mod Stored
+pub mod SetsAt
+pub mod Kept
+pub mod Adding
+pub mod Cutting
+pub mod Telling
+pub mod AllNumbered
+pub mod Building
+pub mod KeyLists
+pub mod Waits
+pub mod RuleEnding
+pub mod RulesEnding
+pub mod BookEntry

@@ -1,0 +1,13 @@
+use mathlib.Core.Path.{ap}
+use Rattle.book.specs.declared.record.Record.{Record}
+use Rattle.book.proofs.Telling.{one-place, bodies-told}
+use Rattle.book.proofs.book.Book.bodies.Needs as need
+
+pub returns : need.returns
+returns c =
+    let b = c .args .self .now in
+    let r = c .args .number in
+    record {
+      place = λ d. ap (λ (x : Record). x .bodies) (one-place b (r .index) (r .below) (c .index-self-number .result) d);
+      used = bodies-told b (r .index) (c .index-self-number .result);
+    }

@@ -1,0 +1,10 @@
+pub mod Limits
+pub mod Sets
+pub mod Numbers
+pub mod Records
+pub mod Books
+pub mod Entering
+pub mod Indices
+pub mod KeyLists
+pub mod Entries
+pub mod Faults

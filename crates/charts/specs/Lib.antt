@@ -1,0 +1,9 @@
+pub mod Limits
+pub mod Bits
+pub mod Laws
+pub mod Makes
+pub mod AnyMake
+pub mod Faults
+pub mod Filling
+pub mod Evaluation
+pub mod Judging

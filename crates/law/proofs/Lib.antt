@@ -1,0 +1,6 @@
+pub mod Refusals
+pub mod Decided
+pub mod OneAnswer
+pub mod KeysKept
+pub mod RecordsKept
+pub mod Kept

@@ -1,0 +1,5 @@
+mod Buffers
+mod Steps
+mod Trails
+mod Settling
+mod Readings
