@@ -4,3 +4,8 @@ pub mod OneAnswer
 pub mod KeysKept
 pub mod RecordsKept
 pub mod Kept
+pub mod Runs
+pub mod OneRun
+pub mod Law
+pub mod Steps
+pub mod Example

@@ -5,3 +5,8 @@ pub mod Defined
 pub mod OneAnswer
 pub mod Kept
 pub mod Does
+pub mod Runs
+pub mod OneRun
+pub mod Law
+pub mod Steps
+pub mod Example

@@ -84,11 +84,11 @@ module _ (book : Book) (wf : WellFormed book) (e : Record) (below : AllBelow (le
 
 -- ---- stored rules
 
-record Stored (book : Book) (r : Rule) : Type 0 where
-  formed : WellFormed (store book r)
-  extends : Extends book (store book r)
-  last : number-of book r < length (store book r)
-  is : rule-of (store book r) (number-of book r) ≡ r
+pub record Stored (book : Book) (r : Rule) : Type 0 where
+  pub formed : WellFormed (store book r)
+  pub extends : Extends book (store book r)
+  pub last : number-of book r < length (store book r)
+  pub is : rule-of (store book r) (number-of book r) ≡ r
 
 record AllStored (book : Book) (rs : Rules) : Type 0 where
   formed : WellFormed (stores book rs)
@@ -131,7 +131,7 @@ module _ (rules : Rules) (goal : Rule) where
   forces : AllStored [] rules
   forces = all-stored [] nothing-formed rules
 
-  goal-stored : Stored (stores [] rules) goal
+  pub goal-stored : Stored (stores [] rules) goal
   goal-stored = stored (stores [] rules) (forces .formed) goal
 
   abbrev book : Book
@@ -143,11 +143,11 @@ module _ (rules : Rules) (goal : Rule) where
   below-all : AllBelow (length book) (numbers [] rules)
   below-all = below-more (length (stores [] rules)) (length book) (goal-stored .extends .longer) (numbers [] rules) (forces .below)
 
-  to-set : (chart : Chart) (w : ℕ) → AllHold chart w rules → SetHolds book chart w (mask (numbers [] rules))
+  pub to-set : (chart : Chart) (w : ℕ) → AllHold chart w rules → SetHolds book chart w (mask (numbers [] rules))
   to-set chart w all r l h =
       each-holds chart w (rule-of book) (subst (AllHold chart w) (sym in-force-are) all) (has-member r (numbers [] rules) h)
 
-  from-set : (chart : Chart) (w : ℕ) → SetHolds book chart w (mask (numbers [] rules)) → AllHold chart w rules
+  pub from-set : (chart : Chart) (w : ℕ) → SetHolds book chart w (mask (numbers [] rules)) → AllHold chart w rules
   from-set chart w h =
       subst (AllHold chart w) in-force-are
       (all-hold chart w (rule-of book) (numbers [] rules) (λ b m. h b (member-below (length book) below-all m) (member-has m)))

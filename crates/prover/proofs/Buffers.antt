@@ -1,11 +1,10 @@
 -- How writes to a buffer follow one another.
 use mathlib.Core.List.{List, [], _∷_, _++_, append-assoc, append-nil}
-use mathlib.Core.Logic.{⊎-elim}
 use mathlib.Core.Path.{_≡_, refl, sym, ap, _∙_}
-use Prim.Native.Nat.{ℕ, zero, suc, min, _+_, _-_, _<_, _≤_}
+use Prim.Native.Nat.{ℕ, zero, suc, _+_, _-_, _<_, _≤_}
 use native.Mathlib.Omega.{arith}
 use lib.ListN.{length, take, drop, set, replicate, length-append, length-take, length-drop}
-use Rattle.std.proofs.shelf.Lists.{drop-all, take-all, take-take, take-at, take-append-le, take-more-set}
+use Rattle.std.proofs.shelf.Lists.{drop-all, take-all, take-take, take-at, take-more-set}
 use Rattle.prover.specs.Written.{Wrote}
 
 -- cutting the front first changes nothing of what fits

@@ -1,8 +1,8 @@
 -- What the check of tree bytes tells.
 use mathlib.Core.Bool.{Bool}
-use mathlib.Core.List.{List, [], _∷_}
+use mathlib.Core.List.{List, _∷_}
 use mathlib.Core.Path.{_≡_}
-use Prim.Native.Nat.{ℕ, _<_, _≤_}
+use Prim.Native.Nat.{ℕ, _≤_}
 use lib.ListN.{length, drop}
 use Rattle.std.specs.declared.option.Option.{Option}
 use Rattle.std.specs.declared.option.Option.the-variants.{Some, None}
@@ -13,7 +13,6 @@ use Rattle.logic.specs.Rules as rules
 use Rattle.logic.specs.Search.{Query}
 use Rattle.logic.specs.Trees.{Applies, Tree, bytes}
 use Rattle.book.specs.declared.number.RecordNumber.{RecordNumber}
-use Rattle.prover.specs.Settings.{query-of}
 use Rattle.prover.specs.declared.verdict.Misread.{Misread}
 use Rattle.prover.specs.declared.verdict.Verdict.{Verdict}
 use Rattle.prover.specs.declared.verdict.Verdict.the-variants.{Accepted, Rejected}

@@ -2,7 +2,6 @@
 use mathlib.Core.Bool.{Bool, true, false}
 use Prim.Native.Nat.{ℕ}
 use Rattle.logic.specs.Search.{Query, Setting}
-use Rattle.logic.specs.Trees.{Tree}
 use Rattle.book.specs.Books.{records-of}
 use Rattle.book.specs.declared.book.Book.{Book}
 use Rattle.prover.specs.declared.task.Restart.{Restart}

@@ -1,11 +1,9 @@
 //! The search.
 ghost use mathlib.Core.List.{[], _∷_, _++_};
 ghost use mathlib.Core.Path.{_≡_};
-ghost use Prim.Native.Nat.{ℕ, _<_, _≤_, _+_, _-_, _*_, _^_};
-ghost use lib.Dec.{T};
+ghost use Prim.Native.Nat.{_<_, _≤_, _+_, _-_, _*_, _^_};
 ghost use lib.ListN.{length, take};
 ghost use Rattle.book.specs.Books.{records-of};
-ghost use Rattle.prover.specs.Settings.{allowed};
 ghost use Rattle.prover.specs.Settled.{zeros, Settled, Shown};
 ghost use Rattle.prover.specs.Told.{Told, NameAsked, RulesTried, BodiesAsked, BodyAsked};
 ghost use Rattle.prover.specs.Written.{Wrote};

@@ -1,7 +1,7 @@
 //! The check of the bytes of a success tree.
 ghost use mathlib.Core.List.{[], _∷_};
 ghost use mathlib.Core.Path.{_≡_};
-ghost use Prim.Native.Nat.{ℕ, _<_, _≤_, _+_};
+ghost use Prim.Native.Nat.{_<_, _≤_, _+_};
 ghost use lib.ListN.{length, getD};
 ghost use Rattle.book.specs.Books.{records-of};
 ghost use Rattle.prover.specs.Read.{Took, Judged, OfTrees, Applying};

@@ -33,9 +33,8 @@ use Rattle.law.specs.Limits.{largest-budget, tree-bytes}
 use Rattle.law.specs.Standing.{Standing}
 use Rattle.law.specs.Calls.{Call, ask, check, Answer, refused, long, handed, Tally}
 use Rattle.law.specs.Defined.{standing, unless, or-else, refusal-of, entering, zeros, found, filled, refusal, goal-query, Checked, accepts, rejects}
-use Rattle.law.proofs.RecordsKept.{number-within}
 use Rattle.law.proofs.Refusals.{le-passes, none-or, passed-unless}
-use Rattle.service.specs.Contents.{held, TakesIn, GivenBack}
+use Rattle.service.specs.Contents.{TakesIn}
 use Rattle.service.specs.Faults as faults
 use Rattle.service.specs.Questions.{asked, checked}
 use Rattle.service.specs.Represents.{SealedHolds, Does}
@@ -45,7 +44,7 @@ use Rattle.service.specs.declared.state.Sealed.{Sealed}
 use Rattle.service.specs.declared.state.State.the-variants.{Shut}
 use Rattle.service.proofs.Failing.{over-fails, both-fail}
 use Rattle.service.proofs.Doing.{answered, turned-down, refused-in}
-use Rattle.service.proofs.Goals.{GoalIn, goal-in, goal-back}
+use Rattle.service.proofs.Goals.{Questioned, the-goal, recorded, after-goal}
 
 -- ---- the query of a goal
 
@@ -171,59 +170,25 @@ module _ {K : Type 0} (kind : Kind K) (w : List ℕ) (restart : Bool) (budget : 
         turned-down kind slots t (ask w budget buffer restart) (faults.refusal e) (Shut (record { register = g′; book = b′; marks = ms })) (h .shut)
         (ask-refusal slots t low high short ∙ ap refusal-of (x .is)) record { shut = h .shut; marked = h .marked; holds = x .holds }
 
--- a question that was asked of the book with the goal behind what stands, and after which the goal was given back
-pub record Questioned {K : Type 0} (kind : Kind K) (w : List ℕ) (g g′ g″ : Register K) (b b′ b″ : Book) (n : RecordNumber) (m : Mark) (S x : ℕ) : Type 0 where
-  pub reflexive : (k : K) → kind .same k k ≡ true
-  pub takes-in : TakesIn kind w (Ok n) g b g′ b′
-  pub records : m .records ≡ length (records-of b)
-  pub names : m .names ≡ names-of b
-  pub set : n .index < length (records-of b′) → S ≡ supposing (records-of b′) (in-force-of b′) (n .index)
-  pub name : n .index < length (records-of b′) → x ≡ head-of (records-of b′) (n .index)
-  pub back : GivenBack g′ b′ m g″ b″
-
-module _ {K : Type 0} (kind : Kind K) (w : List ℕ) (g g′ g″ : Register K) (b b′ b″ : Book) (ms : Marks) (n : RecordNumber) (m : Mark) (S x : ℕ)
-    (q : Questioned kind w g g′ g″ b b′ b″ n m S x) (slots : ℕ) (t : Tally)
-    (h : SealedHolds kind slots t (record { register = g; book = b; marks = ms })) where
-  the-goal : GoalIn kind w g′ b′ slots (standing kind slots t) n
-  the-goal = goal-in kind w g′ b′ slots (standing kind slots t) n (q .takes-in slots (standing kind slots t) (h .holds))
-
-  recorded : n .index < length (records-of b′)
-  recorded =
-      omega (
-        arith,
-        the-goal .number-is,
-        ap length (the-goal .holds .book-is .records),
-        number-within (the-goal .goal) (stores [] (standing kind slots t .rules)) .1,
-      )
-
-  of-goal : OfGoal (records-of b′) (in-force-of b′) (n .index) S x
-  of-goal = record { set = q .set recorded; name = q .name recorded }
-
-  after-goal : SealedHolds kind slots t (record { register = g″; book = b″; marks = ms })
-  after-goal = record {
-    shut = h .shut;
-    marked = h .marked;
-    holds = goal-back kind w g′ b′ slots (q .reflexive) g g″ b b″ m n t the-goal (h .holds) (q .records) (q .names) (q .back);
-  }
-
 pub does-ask : {K : Type 0} (kind : Kind K) (w : List ℕ) (buffer after : List ℕ) (task : Task) (g g′ g″ : Register K) (b b′ b″ : Book) (ms : Marks)
     (n : RecordNumber) (m : Mark) (S : ℕ) → 1 ≤ task .budget → task .budget ≤ largest-budget → length buffer ≤ tree-bytes
-    → Questioned kind w g g′ g″ b b′ b″ n m S (task .goal .index) → length after ≡ length buffer → (r : Outcome) → Settled b′ task S after r
+    → Questioned kind w g g′ g″ b b′ b″ n m
+    → (n .index < length (records-of b′) → OfGoal (records-of b′) (in-force-of b′) (n .index) S (task .goal .index)) → length after ≡ length buffer → (r : Outcome) → Settled b′ task S after r
     → Does kind (ask w (task .budget) buffer (allowed (task .restart))) (Shut (record { register = g; book = b; marks = ms })) (asked (Ok r)) after
     (Shut (record { register = g″; book = b″; marks = ms }))
-does-ask {K} kind w buffer after task g g′ g″ b b′ b″ ms n m S low high short q same-length r settled slots t h =
-    let x = the-goal kind w g g′ g″ b b′ b″ ms n m S (task .goal .index) q slots t h in
+does-ask {K} kind w buffer after task g g′ g″ b b′ b″ ms n m S low high short q of same-length r settled slots t h =
+    let x = the-goal kind w g g′ g″ b b′ b″ ms n m q slots t h in
     let rules = standing kind slots t .rules in
     let to = λ (o : search.Outcome) (k : ℕ).
     goal-asked (records-of b′) (book-of rules (x .goal)) (in-force-of b′) (mask (numbers [] rules)) (n .index) (number-of (stores [] rules) (x .goal)) S
     (task .goal .index) (allowed (task .restart)) (x .holds .book-is .records) (x .holds .book-is .in-force) (x .number-is)
-    (of-goal kind w g g′ g″ b b′ b″ ms n m S (task .goal .index) q slots t h) (task .budget) o k in
+    (of (recorded kind w g g′ g″ b b′ b″ ms n m q slots t h)) (task .budget) o k in
     let a = settles b′ task S rules (x .goal) buffer after same-length to r settled in
     answered kind slots t (ask w (task .budget) buffer (allowed (task .restart))) (asked (Ok r)) after
     (Shut (record { register = g″; book = b″; marks = ms })) (h .shut)
     (ask-refusal kind w (allowed (task .restart)) (task .budget) buffer slots t low high short ∙ ap refusal-of (x .is))
     (x .goal, (x .keys, x .is), a .outcome, a .count, a .asked-so, a .answer-is, a .buffer-is)
-    (after-goal kind w g g′ g″ b b′ b″ ms n m S (task .goal .index) q slots t h)
+    (after-goal kind w g g′ g″ b b′ b″ ms n m q slots t h)
 
 -- ---- check
 
@@ -248,20 +213,21 @@ module _ {K : Type 0} (kind : Kind K) (w tree : List ℕ) (restart : Bool) where
         turned-down kind slots t (check w tree restart) (faults.refusal e) (Shut (record { register = g′; book = b′; marks = ms })) (h .shut)
         (check-refusal slots t short ∙ ap refusal-of (x .is)) record { shut = h .shut; marked = h .marked; holds = x .holds }
 
-    pub does-check : (g″ : Register K) (b″ : Book) (n : RecordNumber) (m : Mark) (S name : ℕ) → Questioned kind w g g′ g″ b b′ b″ n m S name
+    pub does-check : (g″ : Register K) (b″ : Book) (n : RecordNumber) (m : Mark) (S name : ℕ) → Questioned kind w g g′ g″ b b′ b″ n m
+        → (n .index < length (records-of b′) → OfGoal (records-of b′) (in-force-of b′) (n .index) S name)
         → (v : Verdict) → Judged (records-of b′) restart name (query-of S name ∷ []) 0 tree v
         → Does kind (check w tree restart) (Shut (record { register = g; book = b; marks = ms })) (checked (Ok v)) []
         (Shut (record { register = g″; book = b″; marks = ms }))
-    does-check g″ b″ n m S name q v judged slots t h =
-        let x = the-goal kind w g g′ g″ b b′ b″ ms n m S name q slots t h in
+    does-check g″ b″ n m S name q of v judged slots t h =
+        let x = the-goal kind w g g′ g″ b b′ b″ ms n m q slots t h in
         let rules = standing kind slots t .rules in
         let j = goal-judged (records-of b′) (book-of rules (x .goal)) (in-force-of b′) (mask (numbers [] rules)) (n .index)
         (number-of (stores [] rules) (x .goal)) S name restart (x .holds .book-is .records) (x .holds .book-is .in-force) (x .number-is)
-        (of-goal kind w g g′ g″ b b′ b″ ms n m S name q slots t h) tree v judged in
+        (of (recorded kind w g g′ g″ b b′ b″ ms n m q slots t h)) tree v judged in
         answered kind slots t (check w tree restart) (checked (Ok v)) [] (Shut (record { register = g″; book = b″; marks = ms })) (h .shut)
         (check-refusal slots t short ∙ ap refusal-of (x .is))
         (x .goal, (x .keys, x .is), judged-so rules (x .goal) v j, refl)
-        (after-goal kind w g g′ g″ b b′ b″ ms n m S name q slots t h)
+        (after-goal kind w g g′ g″ b b′ b″ ms n m q slots t h)
       where
         judged-so : (rules : Rules) (goal : Rule) (v : Verdict)
             → Judged (book-of rules goal) restart (goal-query rules goal .name) (goal-query rules goal ∷ []) 0 tree v

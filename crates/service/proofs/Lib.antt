@@ -6,3 +6,6 @@ mod Supposing
 mod TakingIn
 mod Goals
 mod Asking
+mod LookingAt
+mod Carrying
+mod Replayed

@@ -3,3 +3,7 @@ pub mod Marks
 pub mod Contents
 pub mod Represents
 pub mod Questions
+pub mod Looking
+pub mod Calls
+pub mod Replays
+pub mod Replaying

@@ -7,16 +7,16 @@ use native.Mathlib.Omega.{arith}
 use lib.Dec.{T}
 use lib.ListN.{length, getD}
 use Rattle.std.proofs.shelf.Tests.{false≢true}
-use Rattle.logic.specs.Rules.{head-of, bodies-of, supposing}
-use Rattle.logic.specs.Search.{Outcome, succeeded, failed, spent, Bodies}
+use Rattle.logic.specs.Rules.{bodies-of, supposing}
+use Rattle.logic.specs.Search.{Outcome, succeeded, failed, spent}
 use Rattle.book.specs.Books.{records-of}
 use Rattle.book.specs.Records.{numbers}
 use Rattle.book.specs.declared.record_set.RecordSet.{RecordSet}
 use Rattle.book.proofs.Listing.{numbers-length, listed-at}
 use Rattle.book.proofs.Masks.{least-some}
 use Rattle.book.proofs.Telling.{body-used}
-use Rattle.prover.specs.Settings.{setting, allowed}
-use Rattle.prover.specs.Told.{EachWay, Told, NameAsked, BodiesAsked}
+use Rattle.prover.specs.Settings.{allowed}
+use Rattle.prover.specs.Told.{Told, NameAsked, BodiesAsked}
 use Rattle.prover.specs.Written.{Wrote}
 use Rattle.prover.specs.declared.found.Found.the-variants.{Yes, No}
 use Rattle.prover.specs.declared.in_force.InForce.{InForce}

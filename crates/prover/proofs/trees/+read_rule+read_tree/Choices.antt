@@ -1,6 +1,6 @@
 use lib.ListN.{length, drop}
 use mathlib.Core.List.{List, _++_}
-use Prim.Native.Nat.{ℕ, _+_, _*_, _-_, _≤_}
+use Prim.Native.Nat.{_+_, _*_, _-_, _≤_}
 use Rattle.logic.specs.Check.{body-queries}
 use Rattle.logic.specs.Search.{Query}
 use Rattle.book.specs.Books.{records-of}

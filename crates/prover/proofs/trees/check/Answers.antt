@@ -1,10 +1,7 @@
-use mathlib.Core.List.{[], _∷_}
-use mathlib.Core.Path.{_≡_}
-use Rattle.logic.proofs.Check.{check-right}
-use Rattle.logic.proofs.Rejection.{rejects-right}
-use Rattle.logic.specs.Check.{Answers, Rejects, RejectsRight}
+use mathlib.Core.List.{[]}
+use Rattle.logic.specs.Check.{RejectsRight}
 use Rattle.book.specs.Books.{records-of}
-use Rattle.prover.specs.Settings.{allowed, query-of}
+use Rattle.prover.specs.Settings.{allowed}
 use Rattle.prover.specs.declared.verdict.Verdict.the-variants.{Accepted, Rejected}
 use Rattle.prover.proofs.Readings.{read-end, read-extra, of-trees}
 use Rattle.prover.proofs.trees.check.Needs as need

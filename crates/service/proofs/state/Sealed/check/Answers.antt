@@ -34,8 +34,10 @@ returns g c =
       takes-in = c .in-Continue-number .ensures tt;
       records = c .mark-mark .ensures .records;
       names = c .mark-mark .ensures .names;
-      set = λ l. c .supposing-set .ensures .used l ∙ ap (λ f. supposing (records-of b) f (n .index)) (c .in-force .ensures);
-      name = λ l. c .head-head .ensures .used l;
       back = c .give-back .ensures;
     }
+    (λ l. record {
+      set = c .supposing-set .ensures .used l ∙ ap (λ f. supposing (records-of b) f (n .index)) (c .in-force .ensures);
+      name = c .head-head .ensures .used l;
+    })
     (c .check-verdict .result) (c .check-verdict .ensures .judged)
