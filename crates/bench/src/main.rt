@@ -1,5 +1,7 @@
 //! Times questions to three books. With no words it shows what the questions come to; with a word it asks them again and again at the
 //! full budget, and shows the nanoseconds that a query takes.
+#![tactic(auto)]
+
 mod books;
 
 use books::Kind;

@@ -1,4 +1,6 @@
 //! The book of records: rules and their bodies, by number; and the entering of a rule as written.
+#![tactic(auto)]
+
 mod bodies;
 mod book;
 mod changes;

@@ -46,7 +46,7 @@ pub fn number_keys<K: Written + Copy>(
     bytes: &[u8],
     outline: &Outline,
 ) -> Result<KeyNumbers, RegisterFault>
-    ensures numbers { (w : WrittenRule K) → reading bytes.now ≡ reads w → IsOutline w outline.now → Numbers K.Key.same (room (slots_of register.old)) (keys_in register.old) w (keys_in register.new) result }
+    ensures numbers { (w : WrittenRule K) → K.reading bytes.now ≡ reads w → IsOutline w outline.now → Numbers K.same (room (slots_of register.old)) (keys_in register.old) w (keys_in register.new) result }
     ensures keys { KeysHeld (keys_in register.old) (keys_in register.new) result }
     ensures slots { slots_of register.new ≡ slots_of register.old }
 {

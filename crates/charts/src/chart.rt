@@ -35,5 +35,5 @@ pub trait Chart {
 
 /// The laws of a chart make its value lawful, as rules are judged by.
 pub fn charts_are_lawful<C: Chart>(chart: &C)
-    ensures { Lawful (value chart.now) }
+    ensures { Lawful (C.value chart.now) }
 {}

@@ -13,7 +13,7 @@ use book::{Bodies, Book, RECORDS, RecordNumber};
 
 /// The set of the followers of `release`.
 fn followers_of<C: Chart>(chart: &C, release: usize) -> u64
-    ensures { (v : ℕ) → bit result v ≡ (value chart.now).follows release v }
+    ensures { (v : ℕ) → bit result v ≡ (C.value chart.now).follows release v }
 {
     let mut set = 0;
     for later in 0..chart.size() {
@@ -26,7 +26,7 @@ fn followers_of<C: Chart>(chart: &C, release: usize) -> u64
 
 /// The set of the releases that carry `number`.
 fn carriers_of<C: Chart>(chart: &C, number: usize) -> u64
-    ensures { (w : ℕ) → bit result w ≡ (value chart.now).carries w number }
+    ensures { (w : ℕ) → bit result w ≡ (C.value chart.now).carries w number }
 {
     let mut set = 0;
     for release in 0..chart.size() {
@@ -39,7 +39,7 @@ fn carriers_of<C: Chart>(chart: &C, number: usize) -> u64
 
 /// The set of the followers of each release.
 fn rows<C: Chart>(chart: &C) -> [u64; RELEASES]
-    ensures { Rows (value chart.now) result }
+    ensures { Rows (C.value chart.now) result }
 {
     let mut words = [0; RELEASES];
     for release in 0..chart.size() {
@@ -76,7 +76,7 @@ fn bodies_hold(masks: &[u64; RECORDS], bodies: &Bodies) -> u64
 
 /// For each record of the book, the set of the releases at which it holds; bodies come before what they are bodies of.
 pub fn evaluate<C: Chart>(chart: &C, book: &Book) -> [u64; RECORDS]
-    ensures { Evaluated (value chart.now) (records_of book.now) result }
+    ensures { Evaluated (C.value chart.now) (records_of book.now) result }
 {
     let followers = rows(chart);
     let mut masks = [0; RECORDS];

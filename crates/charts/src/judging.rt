@@ -39,7 +39,7 @@ pub fn hold_at<C: Chart>(
     goal: RecordNumber,
     release: usize,
 ) -> Option<Holding>
-    ensures { HoldAt (value chart.now) (records_of book.now) rules.bits goal.index release result }
+    ensures { HoldAt (C.value chart.now) (records_of book.now) rules.bits goal.index release result }
 {
     if release >= chart.size() {
         return None;

@@ -1,4 +1,6 @@
 //! Charts: finite models of releases, and which rules hold at them.
+#![tactic(auto)]
+
 mod any;
 mod bits;
 mod chart;

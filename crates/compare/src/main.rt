@@ -1,4 +1,6 @@
 //! Compares the service with a slow prover that shares nothing with it, on every small book and on many larger ones.
+#![tactic(auto)]
+
 mod asking;
 mod cases;
 mod chance;

@@ -1,4 +1,5 @@
 //! The console: a line in, the bytes of the printed line out.
+#![tactic(auto)]
 
 mod drafts;
 mod intake;

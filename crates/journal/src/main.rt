@@ -1,4 +1,6 @@
 //! The journal: carries out a written list of calls from an empty draft of 64 names, and prints a line for each line.
+#![tactic(auto)]
+
 mod carrying;
 mod entry;
 mod filling;

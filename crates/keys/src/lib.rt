@@ -1,4 +1,6 @@
 //! Keys and their numbers: a register numbers keys at first appearance, in slots that the caller lends.
+#![tactic(auto)]
+
 ghost use Rattle.std.specs.Prelude.{◌≡◌, Bool, true};
 
 mod lookup;

@@ -6,7 +6,7 @@ use crate::Key;
 
 /// The first place of a key that is the same as `key`.
 pub fn first_same<K: Key>(keys: &[K], key: &K) -> Option<usize>
-    ensures { First same keys.now key.now result }
+    ensures { First K.same keys.now key.now result }
 {
     for (i, k) in keys.iter().enumerate() {
         if k.same_as(key) {

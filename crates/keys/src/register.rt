@@ -35,7 +35,7 @@ impl<'a, K: Key + Copy> Register<'a, K> {
 
     /// The number of a key, or nothing where it is absent.
     pub fn lookup(&self, key: &K) -> Option<KeyNumber>
-        ensures { Looked same (keys_in self.now) key.now result }
+        ensures { Looked K.same (keys_in self.now) key.now result }
     {
         let used = self.used();
         match first_same(&self.slots[0..used], key) {
@@ -46,7 +46,7 @@ impl<'a, K: Key + Copy> Register<'a, K> {
 
     /// The number of a key: its own if it has one, else the next. A refusal changes nothing.
     pub fn enter(&mut self, key: K, place: usize) -> Result<KeyNumber, RegisterFault>
-        ensures result { Enters same (keys_in self.old) key (slots_of self.old) «place» (keys_in self.new) result }
+        ensures result { Enters K.same (keys_in self.old) key (slots_of self.old) «place» (keys_in self.new) result }
         ensures slots { slots_of self.new ≡ slots_of self.old }
     {
         if let Some(number) = self.lookup(&key) {

@@ -1,4 +1,6 @@
 //! The law over every list of calls: each function's contract is a theorem, so that the check asks for its proof.
+#![tactic(auto)]
+
 ghost use Rattle.law.specs.Example.{ExampleRuns};
 ghost use Rattle.law.specs.Kept.{KeysKeptAll, RecordsKept, StandingKeptAll};
 ghost use Rattle.law.specs.Law.{LawHolds};

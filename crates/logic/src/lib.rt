@@ -1,5 +1,7 @@
 //! What is proved of rules, success trees, charts, the search and the check of tree bytes: each function's contract states
 //! theorems, so that the crate stands only with their proofs.
+#![tactic(auto)]
+
 ghost use Rattle.logic.specs.Begun.{TracksKept};
 ghost use Rattle.logic.specs.Check.{RejectsRight};
 ghost use Rattle.logic.specs.Examples.{ExamplesYielded};

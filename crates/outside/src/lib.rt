@@ -1,4 +1,6 @@
 //! A make of charts outside the library, and code that knows a chart by its laws only.
+#![tactic(auto)]
+
 ghost use Rattle.std.specs.Prelude.{◌≡◌, true, ◌+◌};
 ghost use Rattle.book.specs.Books.{records_of};
 ghost use Rattle.charts.specs.Judging.{HoldAt};
@@ -50,7 +52,7 @@ pub fn still_carried<C: Chart>(chart: &C, release: usize, later: usize, number: 
 
 /// The last release of a chart; every chart has one.
 pub fn last_release<C: Chart>(chart: &C) -> usize
-    ensures { result + 1 ≡ (value chart.now).size }
+    ensures { result + 1 ≡ (C.value chart.now).size }
 {
     chart.size() - 1
 }

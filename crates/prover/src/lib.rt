@@ -1,4 +1,6 @@
 //! The prover: the search for a success tree of a goal, and the check of the bytes of one.
+#![tactic(auto)]
+
 mod found;
 mod in_force;
 mod outcome;

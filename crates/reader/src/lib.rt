@@ -1,4 +1,5 @@
 //! Reads a rule, as text or as codes, into an outline, and keys off the places of its heads.
+#![tactic(auto)]
 
 pub mod codes;
 mod fault;

@@ -15,7 +15,7 @@ use reader::Written;
 impl<'a, K: Key + Written + Copy> Draft<'a, K> {
     /// An empty draft, whose keys are to lie in these slots.
     pub fn new(slots: &'a mut [K]) -> Self
-        ensures { Represents (record { same = same; reading = reading }) (length slots.old) at_start (Open result) }
+        ensures { Represents (record { same = K.same; reading = K.reading }) (length slots.old) at_start (Open result) }
     {
         Draft {
             register: Register::new(slots),
@@ -25,7 +25,7 @@ impl<'a, K: Key + Written + Copy> Draft<'a, K> {
 
     /// Adds a rule.
     pub fn add(&mut self, rule: &[u8]) -> Result<(), Fault>
-        ensures { Does (record { same = same; reading = reading }) (add rule.now) (Open self.old) (told result) [] (Open self.new) }
+        ensures { Does (record { same = K.same; reading = K.reading }) (add rule.now) (Open self.old) (told result) [] (Open self.new) }
     {
         let number = take_in(&mut self.register, &mut self.book, rule)?;
         self.book.put_in_force(number);
@@ -34,7 +34,7 @@ impl<'a, K: Key + Written + Copy> Draft<'a, K> {
 
     /// Seals the book.
     pub fn seal(self) -> Sealed<'a, K>
-        ensures { Does (record { same = same; reading = reading }) «sealing» (Open self.entry) done [] (Shut result) }
+        ensures { Does (record { same = K.same; reading = K.reading }) «sealing» (Open self.entry) done [] (Shut result) }
     {
         let Draft { register, book } = self;
         Sealed {

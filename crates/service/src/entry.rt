@@ -12,7 +12,7 @@ pub(crate) fn take_in<K: Key + Written + Copy>(
     book: &mut Book,
     rule: &[u8],
 ) -> Result<RecordNumber, Fault>
-    ensures { TakesIn (record { same = same; reading = reading }) rule.now result register.old book.old register.new book.new }
+    ensures { TakesIn (record { same = K.same; reading = K.reading }) rule.now result register.old book.old register.new book.new }
 {
     let outline = K::outline(rule)?;
     let used = register.used();

@@ -1,4 +1,5 @@
 //! The service: a draft takes rules, a sealed book takes suppositions and questions.
+#![tactic(auto)]
 
 mod calls;
 mod drafts;

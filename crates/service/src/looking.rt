@@ -20,7 +20,7 @@ impl<'a, K: Key + Written + Copy> Sealed<'a, K> {
         chart: &C,
         release: usize,
     ) -> Result<Holding, Fault>
-        ensures { Does (record { same = same; reading = reading }) («looking» goal.now (value chart.now) release) (Shut self.old) (looked result) [] (Shut self.new) }
+        ensures { Does (record { same = K.same; reading = K.reading }) («looking» goal.now (C.value chart.now) release) (Shut self.old) (looked result) [] (Shut self.new) }
     {
         let mark = self.book.mark();
         let number = take_in(&mut self.register, &mut self.book, goal)?;

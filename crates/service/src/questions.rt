@@ -23,7 +23,7 @@ impl<'a, K: Key + Written + Copy> Sealed<'a, K> {
         budget: u32,
         tree: &mut [u8],
     ) -> Result<Outcome, Fault>
-        ensures { Does (record { same = same; reading = reading }) («asking» goal.now budget tree.old (allowed restart)) (Shut self.old) (asked result) tree.new (Shut self.new) }
+        ensures { Does (record { same = K.same; reading = K.reading }) («asking» goal.now budget tree.old (allowed restart)) (Shut self.old) (asked result) tree.new (Shut self.new) }
     {
         if budget == 0 || budget > QUERIES {
             return Err(Fault::Budget);
@@ -46,7 +46,7 @@ impl<'a, K: Key + Written + Copy> Sealed<'a, K> {
 
     /// Tells whether bytes are one whole success tree of a goal.
     pub fn check(&mut self, goal: &[u8], restart: Restart, tree: &[u8]) -> Result<Verdict, Fault>
-        ensures { Does (record { same = same; reading = reading }) («checking» goal.now tree.now (allowed restart)) (Shut self.old) (checked result) [] (Shut self.new) }
+        ensures { Does (record { same = K.same; reading = K.reading }) («checking» goal.now tree.now (allowed restart)) (Shut self.old) (checked result) [] (Shut self.new) }
     {
         if tree.len() > TREE_BYTES {
             return Err(Fault::TreeBytes);

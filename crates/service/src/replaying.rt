@@ -16,7 +16,7 @@ use reader::Written;
 
 /// Carries out a call on a draft; nothing where it is seal.
 fn draft_call<K: Key + Written + Copy>(draft: &mut Draft<'_, K>, call: &Call<'_>) -> Option<Answer>
-    ensures { (charts : List Chart) → DraftCarries (record { same = same; reading = reading }) charts call.now draft.old result draft.new }
+    ensures { (charts : List Chart) → DraftCarries (record { same = K.same; reading = K.reading }) charts call.now draft.old result draft.new }
 {
     match call {
         Call::Add(rule) => Some(Answer::of_change(draft.add(rule))),
@@ -32,7 +32,7 @@ fn sealed_call<K: Key + Written + Copy, C: ChartMake>(
     charts: &[C],
     tree: &mut [u8],
 ) -> Option<Answer>
-    ensures { SealedCarries (record { same = same; reading = reading }) (map value charts.now) call.now tree.old sealed.old result tree.new sealed.new }
+    ensures { SealedCarries (record { same = K.same; reading = K.reading }) (map C.value charts.now) call.now tree.old sealed.old result tree.new sealed.new }
 {
     match call {
         Call::Suppose(rule) => Some(Answer::of_change(sealed.suppose(rule))),
@@ -66,7 +66,7 @@ fn look_at<K: Key + Written + Copy, C: ChartMake>(
     chart: usize,
     release: usize,
 ) -> Answer
-    ensures { Looks (record { same = same; reading = reading }) goal.now release (chart_at (map value charts.now) chart) sealed.old result sealed.new }
+    ensures { Looks (record { same = K.same; reading = K.reading }) goal.now release (chart_at (map C.value charts.now) chart) sealed.old result sealed.new }
 {
     if chart < charts.len() {
         Answer::of_look(sealed.look(goal, &charts[chart], release))
@@ -93,7 +93,7 @@ fn draft_calls<K: Key + Written + Copy>(
 ) -> Place
     requires { (from.call ≤ min (length calls.now) (length answers.old)) × (from.byte ≤ trees) }
     ensures within { (from.call ≤ result.call) × ((result.call ≤ min (length calls.now) (length answers.new)) × (result.byte ≤ trees)) }
-    ensures goes { (charts : List Chart) → Drafting (record { same = same; reading = reading }) charts calls.now trees from answers.old draft.old result answers.new draft.new }
+    ensures goes { (charts : List Chart) → Drafting (record { same = K.same; reading = K.reading }) charts calls.now trees from answers.old draft.old result answers.new draft.new }
     ensures stops { Stops calls.now answers.new result Seal }
 {
     let count = calls.len().min(answers.len());
@@ -121,7 +121,7 @@ fn sealed_calls<K: Key + Written + Copy, C: ChartMake>(
 ) -> Place
     requires { (from.call ≤ min (length calls.now) (length answers.old)) × (from.byte ≤ length trees.old) }
     ensures within { (from.call ≤ result.call) × ((result.call ≤ min (length calls.now) (length answers.new)) × (result.byte ≤ length trees.new)) }
-    ensures goes { Asking (record { same = same; reading = reading }) (map value charts.now) calls.now from answers.old trees.old sealed.old result answers.new trees.new sealed.new }
+    ensures goes { Asking (record { same = K.same; reading = K.reading }) (map C.value charts.now) calls.now from answers.old trees.old sealed.old result answers.new trees.new sealed.new }
     ensures stops { Stops calls.now answers.new result Reopen }
 {
     let count = calls.len().min(answers.len());
@@ -149,8 +149,8 @@ pub fn replay<K: Key + Written + Copy, C: ChartMake>(
     trees: &mut [u8],
     answers: &mut [Answer],
 )
-    ensures replays { Replays (record { same = same; reading = reading }) (map value charts.now) (length slots.old) trees.old calls.now answers.old answers.new trees.new }
-    ensures law { Law (record { same = same; reading = reading }) (length slots.old) }
+    ensures replays { Replays (record { same = K.same; reading = K.reading }) (map C.value charts.now) (length slots.old) trees.old calls.now answers.old answers.new trees.new }
+    ensures law { Law (record { same = K.same; reading = K.reading }) (length slots.old) }
 {
     let count = calls.len().min(answers.len());
     let mut draft = Draft::new(slots);

@@ -14,7 +14,7 @@ use reader::Written;
 impl<'a, K: Key + Written + Copy> Sealed<'a, K> {
     /// Puts a rule in force until it is withdrawn.
     pub fn suppose(&mut self, rule: &[u8]) -> Result<(), Fault>
-        ensures { Does (record { same = same; reading = reading }) («supposing» rule.now) (Shut self.old) (told result) [] (Shut self.new) }
+        ensures { Does (record { same = K.same; reading = K.reading }) («supposing» rule.now) (Shut self.old) (told result) [] (Shut self.new) }
     {
         if !self.marks.has_room() {
             return Err(Fault::Book(BookFault::TooManySuppositions));
@@ -28,7 +28,7 @@ impl<'a, K: Key + Written + Copy> Sealed<'a, K> {
 
     /// Ends the supposition made last that still stands.
     pub fn withdraw(&mut self) -> Result<(), Fault>
-        ensures { Does (record { same = same; reading = reading }) «withdrawing» (Shut self.old) (told result) [] (Shut self.new) }
+        ensures { Does (record { same = K.same; reading = K.reading }) «withdrawing» (Shut self.old) (told result) [] (Shut self.new) }
     {
         match self.marks.take() {
             Some(mark) => {
@@ -41,7 +41,7 @@ impl<'a, K: Key + Written + Copy> Sealed<'a, K> {
 
     /// Ends all suppositions and gives the draft back.
     pub fn reopen(self) -> Draft<'a, K>
-        ensures { Does (record { same = same; reading = reading }) «reopening» (Shut self.entry) done [] (Open result) }
+        ensures { Does (record { same = K.same; reading = K.reading }) «reopening» (Shut self.entry) done [] (Open result) }
     {
         let Sealed {
             mut register,

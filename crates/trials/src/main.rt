@@ -1,4 +1,6 @@
 //! Tries the calls of the service on cases whose results were worked out by hand, group by group.
+#![tactic(auto)]
+
 mod answer;
 mod books;
 mod budgets;

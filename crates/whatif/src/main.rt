@@ -1,4 +1,6 @@
 //! The console program: reads lines from standard input, and prints a line for each.
+#![tactic(auto)]
+
 mod input;
 
 use console::limits::SLOTS;

@@ -11,7 +11,7 @@ returns-then-same-as g c =
 
 pub loop-i-preserved : goal.loop-i-preserved
 loop-i-preserved g c =
-    let here = number_miss g.K.Key.same _ _ _ _ c.loop-i-test.true c.index-keys-i.is (sym c.same-as.ensures ∙ c.if-same-as.false) in
+    let here = number_miss g.K.Key.same _ _ _ _ c.loop-i-test.true c.index-keys-i.is (sym c.same_as.ensures ∙ c.if-same_as.false) in
     omega (arith, here, c.loop-i.invariant)
 
 pub returns : goal.returns

@@ -12,7 +12,7 @@ pub returns-then-used-room : goal.returns-then-used-room
 returns-then-used-room g c =
     let s = c.args.self.now in
     record {
-      result = enters_new g.K.Key.same s.slots.now s.used.count c.args.key s.used.few _ refl c.in-default.ensures (omega arith) (omega arith);
+      result = enters_new g.K.Key.same s.slots.now s.used.count c.args.key s.used.few _ refl c.in_default.ensures (omega arith) (omega arith);
       slots = length-set s.slots.now s.used.count c.args.key;
     }
 
@@ -20,6 +20,6 @@ pub returns-else-used-room : goal.returns-else-used-room
 returns-else-used-room g c =
     let s = c.args.self.now in
     record {
-      result = enters_full g.K.Key.same s.slots.now s.used.count c.args.key s.used.few _ c.args.place refl c.in-default.ensures (omega arith);
+      result = enters_full g.K.Key.same s.slots.now s.used.count c.args.key s.used.few _ c.args.place refl c.in_default.ensures (omega arith);
       slots = refl;
     }
