@@ -2,9 +2,9 @@ use Rattle.std.proofs.Common.{sym, ◌∙◌, arith}
 use Rattle.keys.proofs.Slots.{number_hit, number_miss, number_end}
 use Rattle.keys.proofs.lookup.first_same.Goals as goal
 
-pub returns-then-same-as : goal.returns-then-same-as
-returns-then-same-as g c =
-    let here = number_hit g.K.Key.same _ _ _ _ c.loop-i-test.true c.index-keys-i.is (sym c.same-as.ensures ∙ c.if-same-as.true) in (
+pub returns-then-same_as : goal.returns-then-same_as
+returns-then-same_as g c =
+    let here = number_hit g.K.Key.same _ _ _ _ c.loop-i-test.true c.index-keys-i.is (sym c.same_as.ensures ∙ c.if-same_as.true) in (
       omega (arith, here, c.loop-i.invariant),
       c.loop-i-test.true,
     )

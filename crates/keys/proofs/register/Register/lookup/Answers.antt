@@ -9,20 +9,20 @@ some_found g c =
     let s = c.args.self.now in
     found_in g.K.Key.same s.slots.now s.used.count c.used-used.result c.args.key.now (Some c.in-Some.i) c.used-used.ensures c.in-Some.ensures
 
-pub slice-bounds-first-same-end : goal.slice-bounds-first-same-end
-slice-bounds-first-same-end g c =
+pub slice_bounds-first_same-end : goal.slice_bounds-first_same-end
+slice_bounds-first_same-end g c =
     let s = c.args.self.now in
     omega (arith, c.used-used.ensures, length-take s.used.count s.slots.now)
 
-pub overflow-cast-result : goal.overflow-cast-result
-overflow-cast-result g c =
+pub overflow_cast-result : goal.overflow_cast-result
+overflow_cast-result g c =
     let s = c.args.self.now in
     omega (arith, (some_found g c).1, few_in s.slots.now s.used.count s.used.few)
 
-pub invariant-of-result : goal.invariant-of-result
-invariant-of-result g c =
+pub invariant_of-result : goal.invariant_of-result
+invariant_of-result g c =
     let s = c.args.self.now in
-    (omega (arith, (some_found g c).1, few_in s.slots.now s.used.count s.used.few), tt)
+    record { below = omega (arith, (some_found g c).1, few_in s.slots.now s.used.count s.used.few) }
 
 pub returns-in-Some : goal.returns-in-Some
 returns-in-Some g c =
