@@ -1,7 +1,7 @@
 -- Where the heads of a rule in codes stand.
 use Rattle.std.proofs.Common.{ℕ, ◌+◌, ◌<◌, ◌≤◌, List, arith}
 use Rattle.std.specs.List.{AllByRecursion}
-use Rattle.std.proofs.lemmas.List.Elements.{All-append}
+use Rattle.reader.proofs.AllLists.{all_append}
 use Rattle.reader.specs.Codes.{IsRule, coded, Bodies, nothing, another}
 use Rattle.reader.specs.FeatureCodes.{Whole, HeadsWhole}
 use Rattle.reader.specs.Tree.{Rule, Rules, places, places_all}
@@ -21,7 +21,7 @@ mutual
 
   bodies_whole : {bs : List ℕ} {d i j : ℕ} {ts : Rules} → Bodies bs d i ts j → AllByRecursion (Whole bs) (places_all ts)
   bodies_whole nothing = tt
-  bodies_whole {bs} (another {ts = ts} {t = t} b few r) = All-append (Whole bs) (places_all ts) (places t) (bodies_whole b) (rule_whole r)
+  bodies_whole {bs} (another {ts = ts} {t = t} b few r) = all_append (Whole bs) (places_all ts) (places t) (bodies_whole b) (rule_whole r)
 
 pub heads_whole : HeadsWhole
 heads_whole bs t r = rule_whole r.reads

@@ -1,7 +1,7 @@
 -- Each head of a text is a name.
 use Rattle.std.proofs.Common.{◌≡◌, ℕ, suc, ◌+◌, ◌<◌, ◌≤◌, List, [], ◌∷◌, ◌++◌, length, sym, refl, subst, arith}
 use Rattle.std.specs.List.{AllByRecursion}
-use Rattle.std.proofs.lemmas.List.Elements.{All-append}
+use Rattle.reader.proofs.AllLists.{all_append}
 use Rattle.reader.specs.declared.lexer.Token.TheVariants.{Name}
 use Rattle.reader.specs.declared.lexer.Lexeme.{Lexeme}
 use Rattle.reader.specs.declared.outline.Outline.{Outline}
@@ -21,7 +21,7 @@ mutual
 
   bodies_named : {bs : List ℕ} {d : ℕ} {l m : Lexeme} {ts : Rules} → text.Bodies bs d l ts m → Lexed bs l → AllByRecursion (Named bs) (places_all ts)
   bodies_named (one b) i = body_named b i
-  bodies_named {bs} (text.another {ts = ts} {t = t} bodies c f few b) i = All-append (Named bs) (places_all ts) (places t) (bodies_named bodies i) (body_named b f.what)
+  bodies_named {bs} (text.another {ts = ts} {t = t} bodies c f few b) i = all_append (Named bs) (places_all ts) (places t) (bodies_named bodies i) (body_named b f.what)
 
   body_named : {bs : List ℕ} {d : ℕ} {l m : Lexeme} {t : Rule} → text.IsBody bs d l t m → Lexed bs l → AllByRecursion (Named bs) (places t)
   body_named {bs} {l = l} (name le n f) i = (named_at bs l n i, tt)

@@ -1,3 +1,4 @@
+pub mod AllLists
 pub mod CodeEarliest
 pub mod CodeHeads
 pub mod CodeLemmas

@@ -1,7 +1,7 @@
 -- What a form's own laws say of what bytes are read as.
 use Rattle.std.proofs.Common.{◌≡◌, ℕ, List, [], ◌∷◌, ◌++◌, Ok, Err, Result, sym, refl, ap, ◌∙◌, subst, append-nil, MatchResult}
 use Rattle.std.specs.List.{AllByRecursion}
-use Rattle.std.proofs.lemmas.List.Elements.{All-append}
+use Rattle.reader.proofs.AllLists.{all_append}
 use Rattle.reader.specs.declared.fault.Reason.{Reason}
 use Rattle.reader.specs.declared.fault.ReaderFault.{ReaderFault}
 use Rattle.reader.specs.declared.outline.Outline.{Outline}
@@ -56,7 +56,7 @@ module _ {K : Type 0} (key : ℕ → K) (Reads : Rule → Type 0) (Refused : Rea
     all_stand P none ws h w = w
     all_stand P (ts ▸ t) ws h w =
         let e = all_split P (places_all ts) (places t) h in
-        all_stand P ts (body (keyed key t) ws) e.0 (All-append (Stands P) (mentions (keyed key t)) (mentions_all ws) (stands P t e.1) w)
+        all_stand P ts (body (keyed key t) ws) e.0 (all_append (Stands P) (mentions (keyed key t)) (mentions_all ws) (stands P t e.1) w)
 
   keys_are : (P : ℕ → Type 0) (p : ℕ) (k : K) → (P p → k ≡ key p) → (ms : List (Mention K)) → AllByRecursion (Stands P) ms → AllByRecursion (λ m. m.place ≡ p → m.key ≡ k) ms
   keys_are P p k is [] h = tt

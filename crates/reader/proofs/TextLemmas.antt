@@ -2,6 +2,8 @@
 use Rattle.std.proofs.Common.{◌≡◌, ℕ, suc, ◌+◌, ◌-◌, ◌*◌, ◌<◌, ◌≤◌, Bool, true, false, cond, ◌⊎◌, List, [], ◌∷◌, ◌++◌, length, get_or, sym, refl, ap, ◌∙◌, subst, inl, inr, append_assoc, append-nil, add-zero, arith}
 use Rattle.reader.specs.declared.fault.Reason.{Reason}
 use Rattle.reader.specs.declared.fault.Reason.TheVariants.{Misplaced}
+use denote.Enum.Bare.{sameb, same_true, same_false}
+use Rattle.reader.specs.contracts.lexer.Token.{the_type}
 use Rattle.reader.specs.declared.lexer.Token.{Token}
 use Rattle.reader.specs.declared.lexer.Token.TheVariants.{Open, Close, Comma, If, Name, Long, Stray, Finish}
 use Rattle.reader.specs.declared.lexer.Lexeme.{Lexeme}
@@ -263,6 +265,11 @@ Says r P = cond r P (P → ⊥)
 pub told : (P : Type 0) (r : Bool) → Says r P → (r ≡ true → P) × (r ≡ false → P → ⊥)
 told P true d = (λ _. d, λ e. absurd (let z : ◌≡◌ {A = ℕ} 0 1 = cc in omega arith))
 told P false d = (λ e. absurd (let z : ◌≡◌ {A = ℕ} 0 1 = cc in omega arith), λ _. d)
+
+-- a comparison of two tokens answers whether they are equal
+pub tokens_say : (r : Bool) (a b : Token) → r ≡ sameb the_type a b → Says r (a ≡ b)
+tokens_say true a b is = same_true the_type tt a b (sym is)
+tokens_say false a b is = same_false the_type a b (sym is)
 
 -- the rule in brackets offends
 pub body_bad : (rest n : ℕ) (s a : TextReader) (x : Reason) (p : ℕ) → 0 < rest → rest < deepest → n < most_bodies → s.next.token ≡ Open → Advanced s a → BadRule (input a) (deepest - (rest - 1)) a.next x p → BadBody (input s) (suc (deepest - rest)) n s.next x p

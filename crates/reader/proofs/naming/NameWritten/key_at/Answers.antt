@@ -8,4 +8,4 @@ use Rattle.reader.proofs.naming.NameWritten.key_at.Goals as goal
 pub returns : goal.returns
 returns c =
     let bs = c.args.bytes.now in
-    subst (λ k. KeyAt (text_reading bs) c.args.place k) (sym (c.new.ensures ∙ ap named c.word-at.ensures)) (key_stands bs c.args.place)
+    subst (λ k. KeyAt (text_reading bs) c.args.place k) (sym (c.new.ensures ∙ ap named c.word_at.ensures)) (key_stands bs c.args.place)
