@@ -47,11 +47,11 @@ returns-in-Err g c =
       numbers = λ w read o.
           let all : c.places-places.result.now ≡ places (mentions w) = c.places-places.ensures ∙ o.heads in
           no_number same g.met.K.Key.reflexive (slots_of s) (keys_in s) ks (keys_in c.enter.new.self) (mentions w) (numbers_in c.loop-place.numbers)
-          c.loop-place.place-index p c.key-at.result (omega (arith, c.loop-place-test.true, ap length all))
+          c.loop-place.place-index p c.key_at.result (omega (arith, c.loop-place-test.true, ap length all))
           (ap (λ (ps : List ℕ). get_or ps c.loop-place.place-index 0) all)
-          (subst (λ (r : Reading g.row.K.Denot). KeyAt r p c.key-at.result) read c.key-at.ensures)
+          (subst (λ (r : Reading g.row.K.Denot). KeyAt r p c.key_at.result) read c.key_at.ensures)
           c.in-Err.fault (c.loop-place.invariant.4 w read o)
-          (subst (λ (n : ℕ). LeftOut same ks c.key-at.result n p (keys_in c.enter.new.self) c.in-Err.fault) c.loop-place.invariant.0 e);
+          (subst (λ (n : ℕ). LeftOut same ks c.key_at.result n p (keys_in c.enter.new.self) c.in-Err.fault) c.loop-place.invariant.0 e);
       keys =
           c.truncate.ensures.keys ∙ ap₂ take c.used-before.ensures e.keys_are ∙ front_take c.loop-place.invariant.1;
       slots = c.truncate.ensures.slots ∙ c.in-Err.ensures.slots ∙ c.loop-place.invariant.0;
@@ -73,11 +73,11 @@ loop-place-preserved g c =
           subst (λ (ns : List ℕ). SoFar same (room (slots_of s)) (keys_in s) (mentions w) (keys_in c.enter.new.self) ns (c.loop-place.place-index + 1))
           (sym c.push.ensures.numbers)
           (next_number same g.met.K.Key.reflexive (slots_of s) (keys_in s) ks (keys_in c.enter.new.self) (mentions w) (numbers_in c.loop-place.numbers)
-          c.loop-place.place-index p c.key-at.result (omega (arith, c.loop-place-test.true, ap length all))
+          c.loop-place.place-index p c.key_at.result (omega (arith, c.loop-place-test.true, ap length all))
           (ap (λ (ps : List ℕ). get_or ps c.loop-place.place-index 0) all)
-          (subst (λ (r : Reading g.row.K.Denot). KeyAt r p c.key-at.result) read c.key-at.ensures)
+          (subst (λ (r : Reading g.row.K.Denot). KeyAt r p c.key_at.result) read c.key_at.ensures)
           c.in-Ok.number (c.loop-place.invariant.4 w read o)
-          (subst (λ (n : ℕ). Entered same ks c.key-at.result n (keys_in c.enter.new.self) c.in-Ok.number) c.loop-place.invariant.0 e)),
+          (subst (λ (n : ℕ). Entered same ks c.key_at.result n (keys_in c.enter.new.self) c.in-Ok.number) c.loop-place.invariant.0 e)),
     )
 
 pub returns : goal.returns

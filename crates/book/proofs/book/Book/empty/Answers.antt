@@ -5,16 +5,18 @@ use Rattle.book.proofs.Kept.{earlier_empty, Lists, lists_none}
 use Rattle.book.proofs.SetsAt.{set_at_none}
 use Rattle.book.proofs.book.Book.empty.Goals as goal
 
-pub invariant-of-result : goal.invariant-of-result
-invariant-of-result c =
+pub invariant_of-result : goal.invariant_of-result
+invariant_of-result c =
     let none : RecordSet = record { bits = 0 } in
-    let lists : Lists (set_at (replicate 64 none)) 0 [] = lists_none (set_at (replicate 64 none)) (λ x. set_at_none 64 none x refl) in (
-      refl,
-      (
-        refl,
-        (
-          omega arith,
-          (omega arith, (earlier_empty, (λ r l. absurd (omega arith), (lists.used, (lists.headed, (lists.all, (omega arith, tt))))))),
-        ),
-      ),
-    )
+    let lists : Lists (set_at (replicate 64 none)) 0 [] = lists_none (set_at (replicate 64 none)) (λ x. set_at_none 64 none x refl) in record {
+      whole = refl;
+      each = refl;
+      few = omega arith;
+      few_names = omega arith;
+      earlier = earlier_empty;
+      named = λ r l. absurd (omega arith);
+      used = lists.used;
+      headed = lists.headed;
+      all = lists.all;
+      standing = omega arith;
+    }

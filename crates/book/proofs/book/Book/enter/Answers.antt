@@ -15,14 +15,14 @@ returns-then-self-ends-gt-RECORDS c =
       refused = (refl, record { records = refl; names = refl; in_force = refl });
     }
 
-pub enter-rules-requires : goal.enter-rules-requires
-enter-rules-requires c =
+pub enter_rules-requires : goal.enter_rules-requires
+enter_rules-requires c =
     let b = c.args.self.now in
-    let ks = c.args.numbers.now in (
-      omega (arith, ap length c.admit.ensures.records, length_records b, c.if-self-ends-gt-RECORDS.false),
-      omega (arith, c.admit.ensures.names, c.names.ensures, ks.few_names),
-      outline_few c.args.outline.now _ c.ends-ends.ensures,
-    )
+    let ks = c.args.numbers.now in record {
+      ends_len_bound = omega (arith, ap length c.admit.ensures.records, length_records b, c.if-self-ends-gt-RECORDS.false);
+      names_bound = omega (arith, c.admit.ensures.names, c.names.ensures, ks.few_names);
+      by_index = outline_few c.args.outline.now _ c.ends-ends.ensures;
+    }
 
 pub returns-in-Some : goal.returns-in-Some
 returns-in-Some c =
@@ -32,8 +32,8 @@ returns-in-Some c =
     let few : c.names.result ≤ 64 = omega (arith, c.names.ensures, ks.few_names) in record {
       entered = λ r laid.
           let here : LaidOut r (numbers_in ks) c.ends-ends.result.now = subst (LaidOut r (numbers_in ks)) (sym c.ends-ends.ensures) laid in
-          subst (λ (n : ℕ). RuleEntered b n r c.enter-rules.new.self c.in-Some.number) c.names.ensures
-          (rule_entered b c.admit.new.self c.enter-rules.new.self c.names.result few c.admit.ensures e.longer r c.in-Some.number
+          subst (λ (n : ℕ). RuleEntered b n r c.enter_rules.new.self c.in-Some.number) c.names.ensures
+          (rule_entered b c.admit.new.self c.enter_rules.new.self c.names.result few c.admit.ensures e.longer r c.in-Some.number
           (omega (arith, records_many r (records_of b) _ _ here, length_records b, c.if-self-ends-gt-RECORDS.false)) (e.stored r here));
       refused = tt;
     }
@@ -47,7 +47,7 @@ returns-in-None c =
       entered = λ r laid. absurd (e.stored r (subst (LaidOut r (numbers_in ks)) (sym c.ends-ends.ensures) laid));
       refused = (
         refl,
-        given_back b c.admit.new.self c.enter-rules.new.self c.names.result few c.admit.ensures e.longer c.truncate.new.self
+        given_back b c.admit.new.self c.enter_rules.new.self c.names.result few c.admit.ensures e.longer c.truncate.new.self
             c.mark-mark.result.records c.mark-mark.result.names c.mark-mark.ensures.records c.mark-mark.ensures.names c.truncate.ensures,
       );
     }

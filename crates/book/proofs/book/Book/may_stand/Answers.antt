@@ -23,7 +23,7 @@ returns c =
       λ e. record {
         room = omega arith;
         named = omega arith;
-        earlier = subst (λ (n : ℕ). AllBelow n bs) (sym len) (c.all-below.ensures.0 e);
+        earlier = subst (λ (n : ℕ). AllBelow n bs) (sym len) (c.all_below.ensures.0 e);
       },
-      λ may. c.all-below.ensures.1 (subst (λ (n : ℕ). AllBelow n bs) len may.earlier),
+      λ may. c.all_below.ensures.1 (subst (λ (n : ℕ). AllBelow n bs) len may.earlier),
     )

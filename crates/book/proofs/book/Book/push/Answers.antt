@@ -3,39 +3,34 @@ use Rattle.book.specs.declared.record.Record.{Record}
 use Rattle.book.proofs.Adding.{length_records, added, added_earlier, added_named, added_lists, standing_more}
 use Rattle.book.proofs.book.Book.push.Goals as goal
 
-pub invariant-of-number : goal.invariant-of-number
-invariant-of-number c = (omega (arith, (c.if-not-may-stand.ensures.0 refl).room, length_records c.args.self.now), tt)
+pub invariant_of-number : goal.invariant_of-number
+invariant_of-number c = record {
+  below = omega (arith, (c.if-not-may_stand.ensures.0 refl).room, length_records c.args.self.now);
+}
 
-pub invariant-of-self : goal.invariant-of-self
-invariant-of-self c =
+pub invariant_of-self : goal.invariant_of-self
+invariant_of-self c =
     let b = c.args.self.now in
     let x : Record = record { head = c.args.head; bodies = c.args.bodies } in
     let S = c.insert-listed.result in
-    let may = c.if-not-may-stand.ensures.0 refl in
+    let may = c.if-not-may_stand.ensures.0 refl in
     let more = c.insert-listed.ensures in
-    let lists = added_lists b x S may more in (
-      length-set b.records b.count x ∙ b.whole,
-      (
-        length-set b.heads x.head.index S ∙ b.each,
-        (
-          omega (arith, may.room, length_records b),
-          (
-            b.few_names,
-            (
-              added_earlier b x S may more,
-              (
-                added_named b x S may more,
-                (lists.used, (lists.headed, (lists.all, (standing_more b.in_force.bits b.count b.standing, tt)))),
-              ),
-            ),
-          ),
-        ),
-      ),
-    )
+    let lists = added_lists b x S may more in record {
+      whole = length-set b.records b.count x ∙ b.whole;
+      each = length-set b.heads x.head.index S ∙ b.each;
+      few = omega (arith, may.room, length_records b);
+      few_names = b.few_names;
+      earlier = added_earlier b x S may more;
+      named = added_named b x S may more;
+      used = lists.used;
+      headed = lists.headed;
+      all = lists.all;
+      standing = standing_more b.in_force.bits b.count b.standing;
+    }
 
 pub returns : goal.returns
 returns c =
     let b = c.args.self.now in
     let x : Record = record { head = c.args.head; bodies = c.args.bodies } in
-    let may = c.if-not-may-stand.ensures.0 refl in
+    let may = c.if-not-may_stand.ensures.0 refl in
     (may, sym (length_records b), record { records = added b x c.insert-listed.result may c.insert-listed.ensures; names = refl; in_force = refl })

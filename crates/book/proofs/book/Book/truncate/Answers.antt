@@ -5,8 +5,8 @@ use Rattle.book.specs.Records.{set_at, stored}
 use Rattle.book.proofs.Cutting.{cut_earlier, cut_few, cut_named, cut_lists, cut_to, under_to}
 use Rattle.book.proofs.book.Book.truncate.Goals as goal
 
-pub invariant-of-self : goal.invariant-of-self
-invariant-of-self c =
+pub invariant_of-self : goal.invariant_of-self
+invariant_of-self c =
     let b = c.args.self.now in
     let m = c.min-count.result in
     let e : m ≡ min b.count c.args.mark.records = search rules in
@@ -14,37 +14,18 @@ invariant-of-self c =
     let top : c.max-self.result ≡ max c.needed.result c.min.result = search rules in
     let low : c.min.result ≡ min b.names c.args.mark.names = search rules in
     let lists = cut_lists b m le (set_at c.cut.new.sets) c.cut.ensures.0 in
-    let need_few = cut_few b m le in (
-      b.whole,
-      (
-        c.cut.ensures.1 ∙ b.each,
-        (
-          omega (arith, b.few),
-          (
-            omega (arith, b.few_names, c.needed.ensures),
-            (
-              cut_earlier b m le,
-              (
-                cut_named b m le c.max-self.result (omega (arith, c.needed.ensures)),
-                (
-                  lists.used,
-                  (
-                    lists.headed,
-                    (
-                      lists.all,
-                      (
-                        subst (λ (n : ℕ). n < 2 ^ m) (sym c.below-self.ensures) (mod_below b.in_force.bits (2 ^ m) (pow_pos m)),
-                        tt,
-                      ),
-                    ),
-                  ),
-                ),
-              ),
-            ),
-          ),
-        ),
-      ),
-    )
+    let need_few = cut_few b m le in record {
+      whole = b.whole;
+      each = c.cut.ensures.1 ∙ b.each;
+      few = omega (arith, b.few);
+      few_names = omega (arith, b.few_names, c.needed.ensures);
+      earlier = cut_earlier b m le;
+      named = cut_named b m le c.max-self.result (omega (arith, c.needed.ensures));
+      used = lists.used;
+      headed = lists.headed;
+      all = lists.all;
+      standing = subst (λ (n : ℕ). n < 2 ^ m) (sym c.below-self.ensures) (mod_below b.in_force.bits (2 ^ m) (pow_pos m));
+    }
 
 pub returns : goal.returns
 returns c =

@@ -10,8 +10,8 @@ returns-then-count-ge-RECORDS c =
     let wide : 2 ^ 128 ≤ 2 ^ c.args.count = pow-le-pow_right (omega arith) {i = 128} {j = c.args.count} (omega arith) in
     sym (mod-eq_of_lt (omega arith))
 
-pub overflow-sub-result : goal.overflow-sub-result
-overflow-sub-result c = omega (arith, one_shl c.args.count 128 (omega arith), pow_pos c.args.count)
+pub overflow_sub-result : goal.overflow_sub-result
+overflow_sub-result c = omega (arith, one_shl c.args.count 128 (omega arith), pow_pos c.args.count)
 
 pub returns : goal.returns
 returns c =

@@ -9,10 +9,13 @@ listed c = let w = c.args.self.now in omega (arith, c.requires, length_listed w.
 pub bounds-self-self : goal.bounds-self-self
 bounds-self-self c = let w = c.args.self.now in omega (arith, c.requires, length_listed w.len w.at (omega (arith, w.whole, w.few)))
 
-pub invariant-of-self : goal.invariant-of-self
-invariant-of-self c =
+pub invariant_of-self : goal.invariant_of-self
+invariant_of-self c =
     let w = c.args.self.now in
-    (length-set w.at w.len c.args.number ∙ w.whole, (omega (arith, c.requires, length_listed w.len w.at (omega (arith, w.whole, w.few))), tt))
+    record {
+      whole = length-set w.at w.len c.args.number ∙ w.whole;
+      few = omega (arith, c.requires, length_listed w.len w.at (omega (arith, w.whole, w.few)));
+    }
 
 pub returns : goal.returns
 returns c =

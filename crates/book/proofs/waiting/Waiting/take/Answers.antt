@@ -17,16 +17,16 @@ loop-i-init c =
 pub loop-i-preserved : goal.loop-i-preserved
 loop-i-preserved c =
     let w = c.args.self.now in
-    let more = c.in-ok-bodies.ensures in
+    let more = c.in_ok-bodies.ensures in
     next_from w.at (w.len - c.args.count) c.loop-i.i _ _ _ c.loop-i.auto.i (omega (arith, w.whole, w.few, c.loop-i-test.true)) c.loop-i.invariant more.1
 
-pub returns-in-err-bodies : goal.returns-in-err-bodies
-returns-in-err-bodies c =
+pub returns-in_err-bodies : goal.returns-in_err-bodies
+returns-in_err-bodies c =
     let w = c.args.self.now in
     let from = w.len - c.args.count in
     let whole : w.len ≤ length w.at = omega (arith, w.whole, w.few) in
-    let full = c.in-err-bodies.ensures in
-    subst (Taken (waiting_in w) c.args.count _) (sym c.from-residual.ensures)
+    let full = c.in_err-bodies.ensures in
+    subst (Taken (waiting_in w) c.args.count _) (sym c.from_residual.ensures)
     (λ enough few. omega (arith, few, full, ap length c.loop-i.invariant, many_from w.at from c.loop-i.i (omega (arith, whole, c.loop-i-test.true)), c.loop-i-test.true, c.if-self-count.false))
 
 pub returns : goal.returns
