@@ -13,7 +13,7 @@ read_small (k ∷ b ∷ []) = reads (written k 0 (body (written b 1 no_body) no_
 read_small (k ∷ b ∷ c ∷ cs) = unread (record { number = 2; place = 2 })
 
 abbrev pub small : Kind ℕ
-small = record { same = eqb; reading = read_small }
+small = record { same = λ x y. x == y; reading = read_small }
 
 -- one release, which carries no key
 abbrev pub bare : Chart

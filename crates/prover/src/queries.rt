@@ -66,7 +66,7 @@ fn push(out: &mut [u8], progress: &mut Progress, byte: u8)
 }
 
 /// Asks a name from the set in force.
-#[cycle(query_try_body_try_restart_try_rule_try_rules)]
+#[cycle(queries)]
 fn query(
     book: &Book,
     task: &Task,
@@ -96,7 +96,7 @@ fn query(
 }
 
 /// Tries the records in force with this head, by rising number, and then the restart.
-#[cycle(query_try_body_try_restart_try_rule_try_rules)]
+#[cycle(queries)]
 fn try_rules(
     book: &Book,
     task: &Task,
@@ -128,7 +128,7 @@ fn try_rules(
 }
 
 /// Asks the goal's head from the set in force.
-#[cycle(query_try_body_try_restart_try_rule_try_rules)]
+#[cycle(queries)]
 fn try_restart(
     book: &Book,
     task: &Task,
@@ -153,7 +153,7 @@ fn try_restart(
 
 /// Tries one record: all its bodies in order. The set in force is also passed by value, so that it is read once for all of
 /// a query's rules.
-#[cycle(query_try_body_try_restart_try_rule_try_rules)]
+#[cycle(queries)]
 fn try_rule(
     book: &Book,
     task: &Task,
@@ -187,7 +187,7 @@ fn try_rule(
 }
 
 /// Asks a body's head with its own bodies put in force; where these are there already, nothing has to be put back.
-#[cycle(query_try_body_try_restart_try_rule_try_rules)]
+#[cycle(queries)]
 fn try_body(
     book: &Book,
     task: &Task,

@@ -8,12 +8,12 @@ use Rattle.charts.proofs.evaluation.evaluate.Goals as goal
 pub loop-r-init : goal.loop-r-init
 loop-r-init g c = (refl, (λ k h. absurd (not-suc-le-zero h)), λ k h. getD_zeros 128 k)
 
-pub overflow-cast-number : goal.overflow-cast-number
-overflow-cast-number g c = omega (arith, records_few c.args.book.now, c.count-r-end.ensures, c.loop-r-test.true)
+pub overflow_cast-number : goal.overflow_cast-number
+overflow_cast-number g c = omega (arith, records_few c.args.book.now, c.count-r-end.ensures, c.loop-r-test.true)
 
-pub invariant-of-number : goal.invariant-of-number
-invariant-of-number g c =
-    let less : c.loop-r.r < 128 = omega (arith, records_few c.args.book.now, c.count-r-end.ensures, c.loop-r-test.true) in (less, tt)
+pub invariant_of-number : goal.invariant_of-number
+invariant_of-number g c =
+    let less : c.loop-r.r < 128 = omega (arith, records_few c.args.book.now, c.count-r-end.ensures, c.loop-r-test.true) in record { below = less }
 
 pub loop-r-preserved : goal.loop-r-preserved
 loop-r-preserved g c =
@@ -30,8 +30,8 @@ loop-r-preserved g c =
           (λ k less. subst (RightAt m (records_of b) k) (sym (get_or-set_other masks r k new 0 (λ e. omega arith))) (c.loop-r.invariant.1 k less))
           (subst (RightAt m (records_of b) r) (sym (get_or-set_same masks r new 0 inside))
           (right_entry m (g.met.C.Chart.ranged chart) (records_of b) (well_formed b) masks r c.size.result c.rows-followers.result _ _
-          c.bodies-hold-met.result c.carriers-of-carriers.result new
+          c.bodies_hold-met.result c.carriers_of-carriers.result new
           (c.head.ensures.used used) (c.bodies.ensures.used used) c.size.ensures used c.loop-r.invariant.1 c.rows-followers.ensures
-          c.bodies-hold-met.ensures c.carriers-of-carriers.ensures c.holding.ensures.holds c.holding.ensures.beyond)),
+          c.bodies_hold-met.ensures c.carriers_of-carriers.ensures c.holding.ensures.holds c.holding.ensures.beyond)),
       λ k less. get_or-set_other masks r k new 0 (λ e. omega arith) ∙ c.loop-r.invariant.2 k (omega arith),
     )

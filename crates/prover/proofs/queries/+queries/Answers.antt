@@ -17,18 +17,18 @@ use Rattle.prover.specs.declared.task.Restart.{Restart}
 use Rattle.prover.proofs.Buffers.{wrote_twice, wrote_keeps, kept_less}
 use Rattle.prover.proofs.Steps.{told_as, told_behind, told_cut, asked_barred, asked_spent, asked_begun, body_kept, body_grown, body_same, bodies_from}
 use Rattle.prover.proofs.Trails.{Lists, trail_none, trail_more, trail_failed, trail_spent, trail_all, lists_common, walk_start, walk_applies, walk_passing, walk_end, walk_next, passing_failed, passing_succeeded, passing_spent, passing_restarted, passing_ended}
-use Rattle.prover.proofs.queries.+query_try_body_try_restart_try_rule_try_rules.Goals as goal
+use Rattle.prover.proofs.queries.+queries.Goals as goal
 
 -- ---- query
 
-pub query-returns-then-has-begun : goal.query-returns-then-has-begun
-query-returns-then-has-begun t c = record {
+pub query-returns-then-has_begun : goal.query-returns-then-has_begun
+query-returns-then-has_begun t c = record {
   counted = search rules;
   short = search rules;
   back = refl;
   told = (
     asked_barred c.args.book.now c.args.task.now c.args.force.now c.args.name.index c.args.progress.now.count
-        (c.if-has-begun.ensures.0 refl),
+        (c.if-has_begun.ensures.0 refl),
     refl,
     refl,
   );
@@ -40,7 +40,7 @@ query-returns-then-progress-task t c = record {
   short = search rules;
   back = refl;
   told = asked_spent c.args.book.now c.args.task.now c.args.force.now c.args.name.index c.args.progress.now.count
-      (λ h. false≢true (c.if-has-begun.ensures.1 h)) c.if-progress-task.true;
+      (λ h. false≢true (c.if-has_begun.ensures.1 h)) c.if-progress-task.true;
 }
 
 pub query-returns : goal.query-returns
@@ -49,17 +49,17 @@ query-returns t c =
     record {
       counted = search rules;
       short = search rules;
-      back = ap (λ (g : InForce). record { set = g.set; begun = f.begun }) (c.try-rules-found.ensures.back ∙ c.begin.ensures);
-      told = told_as _ _ [] c.args.out.now c.args.progress.now.len c.try-rules-found.new.out c.try-rules-found.new.progress.len c.try-rules-found.result
+      back = ap (λ (g : InForce). record { set = g.set; begun = f.begun }) (c.try_rules-found.ensures.back ∙ c.begin.ensures);
+      told = told_as _ _ [] c.args.out.now c.args.progress.now.len c.try_rules-found.new.out c.try_rules-found.new.progress.len c.try_rules-found.result
           (λ o d. asked_begun c.args.book.now c.args.task.now f c.args.name.index c.args.progress.now.count
-          c.try-rules-found.new.progress.count o c.begin.new.self (λ h. false≢true (c.if-has-begun.ensures.1 h)) c.if-progress-task.false c.begin.ensures d)
-          c.try-rules-found.ensures.told;
+          c.try_rules-found.new.progress.count o c.begin.new.self (λ h. false≢true (c.if-has_begun.ensures.1 h)) c.if-progress-task.false c.begin.ensures d)
+          c.try_rules-found.ensures.told;
     }
 
 -- ---- try_body
 
-pub try-body-returns-then-equals : goal.try-body-returns-then-equals
-try-body-returns-then-equals t c =
+pub try_body-returns-then-equals : goal.try_body-returns-then-equals
+try_body-returns-then-equals t c =
     let b = c.args.book.now in
     let r = c.args.body.index in
     let same : c.args.set.bits ≡ c.args.force.now.set.bits = ap (λ (S : RecordSet). S.bits) c.requires.0 in
@@ -75,8 +75,8 @@ try-body-returns-then-equals t c =
           c.query.ensures.told;
     }
 
-pub try-body-returns : goal.try-body-returns
-try-body-returns t c =
+pub try_body-returns : goal.try_body-returns
+try_body-returns t c =
     let b = c.args.book.now in
     let f = c.args.force.now in
     let r = c.args.body.index in
@@ -99,8 +99,8 @@ try-body-returns t c =
 asked_from : (P : ℕ → Outcome → Type 0) (n n₁ : ℕ) → n₁ ≡ n → (o : Outcome) → P n₁ o → P n o
 asked_from P n n₁ e o = subst (λ (c : ℕ). P c o) e
 
-pub try-restart-returns-in-No : goal.try-restart-returns-in-No
-try-restart-returns-in-No t c =
+pub try_restart-returns-in-No : goal.try_restart-returns-in-No
+try_restart-returns-in-No t c =
     let P : ℕ → Outcome → Type 0 = λ n. NameAsked c.args.book.now c.args.task.now c.args.force.now c.args.task.now.goal.index n c.query-found.new.progress.count in
     record {
       counted = search rules;
@@ -112,8 +112,8 @@ try-restart-returns-in-No t c =
           c.push.ensures.wrote (asked_from P c.args.progress.now.count c.push.new.progress.count c.push.ensures.same) c.in-No.ensures.told);
     }
 
-pub try-restart-returns-in-default : goal.try-restart-returns-in-default
-try-restart-returns-in-default t c =
+pub try_restart-returns-in_default : goal.try_restart-returns-in_default
+try_restart-returns-in_default t c =
     let P : ℕ → Outcome → Type 0 = λ n. NameAsked c.args.book.now c.args.task.now c.args.force.now c.args.task.now.goal.index n c.query-found.new.progress.count in
     record {
       counted = search rules;
@@ -121,16 +121,16 @@ try-restart-returns-in-default t c =
       back = search rules;
       told = told_behind (P c.push.new.progress.count) (P c.args.progress.now.count) (2 ∷ []) c.args.out.now c.args.progress.now.len c.push.new.out c.push.new.progress.len c.query-found.new.out c.query-found.new.progress.len
           c.query-found.result c.push.auto.out c.push.ensures.wrote (asked_from P c.args.progress.now.count c.push.new.progress.count c.push.ensures.same)
-          c.in-default.not-No c.query-found.ensures.told;
+          c.in_default.not-No c.query-found.ensures.told;
     }
 
 -- ---- try_rule
 
-pub try-rule-loop-i-init : goal.try-rule-loop-i-init
-try-rule-loop-i-init t c = (search rules, search rules, search rules, refl, trail_none _ _ _ _ _ _ _)
+pub try_rule-loop-i-init : goal.try_rule-loop-i-init
+try_rule-loop-i-init t c = (search rules, search rules, search rules, refl, trail_none _ _ _ _ _ _ _)
 
-pub try-rule-try-body-requires : goal.try-rule-try-body-requires
-try-rule-try-body-requires t c =
+pub try_rule-try_body-requires : goal.try_rule-try_body-requires
+try_rule-try_body-requires t c =
     let b = c.args.book.now in
     let bs = c.bodies-bodies.result.now in
     let r = c.args.number.index in
@@ -149,8 +149,8 @@ written : (out₀ : List ℕ) (len₀ : ℕ) (r : ℕ) (o₁ : List ℕ) (len₁
 written out₀ len₀ r o₁ len₁ o₂ len₂ t out len e₁ e₂ p q d =
     wrote_twice out₀ len₀ (1 ∷ r ∷ []) o₂ len₂ t out len (e₂ ∙ e₁) (wrote_twice out₀ len₀ (1 ∷ []) o₁ len₁ (r ∷ []) o₂ len₂ e₁ p q) d
 
-pub try-rule-returns-in-No : goal.try-rule-returns-in-No
-try-rule-returns-in-No t c =
+pub try_rule-returns-in-No : goal.try_rule-returns-in-No
+try_rule-returns-in-No t c =
     let b = c.args.book.now in
     let k = c.args.task.now in
     let f = c.args.force.now in
@@ -167,18 +167,18 @@ try-rule-returns-in-No t c =
       short = search rules;
       back = search rules;
       told = (
-        bodies_from b k f c.args.number.index c.args.progress.now.count c.push-2.new.progress.count c.try-body.new.progress.count failed (numbers bs)
+        bodies_from b k f c.args.number.index c.args.progress.now.count c.push-2.new.progress.count c.try_body.new.progress.count failed (numbers bs)
             (c.bodies-bodies.ensures.used c.requires.1.0) (c.push-2.ensures.same ∙ c.push.ensures.same)
-            (trail_failed b k f (numbers bs) i _ c.loop-i.progress.count c.try-body.new.progress.count _ _ _ _ h c.loop-i.invariant.4
+            (trail_failed b k f (numbers bs) i _ c.loop-i.progress.count c.try_body.new.progress.count _ _ _ _ h c.loop-i.invariant.4
             (body_same b k f c.loop-i.force _ _ _ _ failed c.loop-i.invariant.3 (sym at) q.0)),
         refl,
-        kept_less c.args.progress.now.len c.loop-i.progress.len c.loop-i.out c.try-body.new.out l q.2
+        kept_less c.args.progress.now.len c.loop-i.progress.len c.loop-i.out c.try_body.new.out l q.2
             ∙ wrote_keeps c.args.out.now c.args.progress.now.len _ c.loop-i.out c.loop-i.progress.len wr,
       );
     }
 
-pub try-rule-returns-in-Spent : goal.try-rule-returns-in-Spent
-try-rule-returns-in-Spent t c =
+pub try_rule-returns-in-Spent : goal.try_rule-returns-in-Spent
+try_rule-returns-in-Spent t c =
     let b = c.args.book.now in
     let k = c.args.task.now in
     let f = c.args.force.now in
@@ -190,14 +190,14 @@ try-rule-returns-in-Spent t c =
       counted = search rules;
       short = search rules;
       back = search rules;
-      told = bodies_from b k f c.args.number.index c.args.progress.now.count c.push-2.new.progress.count c.try-body.new.progress.count spent (numbers bs)
+      told = bodies_from b k f c.args.number.index c.args.progress.now.count c.push-2.new.progress.count c.try_body.new.progress.count spent (numbers bs)
           (c.bodies-bodies.ensures.used c.requires.1.0) (c.push-2.ensures.same ∙ c.push.ensures.same)
-          (trail_spent b k f (numbers bs) i _ c.loop-i.progress.count c.try-body.new.progress.count _ _ _ _ h c.loop-i.invariant.4
+          (trail_spent b k f (numbers bs) i _ c.loop-i.progress.count c.try_body.new.progress.count _ _ _ _ h c.loop-i.invariant.4
           (body_same b k f c.loop-i.force _ _ _ _ spent c.loop-i.invariant.3 (sym at) c.in-Spent.ensures.told));
     }
 
-pub try-rule-loop-i-preserved : goal.try-rule-loop-i-preserved
-try-rule-loop-i-preserved t c =
+pub try_rule-loop-i-preserved : goal.try_rule-loop-i-preserved
+try_rule-loop-i-preserved t c =
     let b = c.args.book.now in
     let k = c.args.task.now in
     let f = c.args.force.now in
@@ -210,12 +210,12 @@ try-rule-loop-i-preserved t c =
       search rules,
       search rules,
       search rules,
-      trail_more b k f (numbers bs) i _ _ c.try-body.new.progress.count _ _ _ _ h c.loop-i.invariant.4 _ _ q.0 c.loop-i.auto.out
+      trail_more b k f (numbers bs) i _ _ c.try_body.new.progress.count _ _ _ _ h c.loop-i.invariant.4 _ _ q.0 c.loop-i.auto.out
           (body_same b k f c.loop-i.force _ _ _ _ (succeeded q.0) c.loop-i.invariant.3 (sym at) q.1) q.2,
     )
 
-pub try-rule-returns : goal.try-rule-returns
-try-rule-returns t c =
+pub try_rule-returns : goal.try_rule-returns
+try_rule-returns t c =
     let b = c.args.book.now in
     let k = c.args.task.now in
     let f = c.args.force.now in
@@ -239,8 +239,8 @@ try-rule-returns t c =
 
 -- ---- try_rules
 
-pub try-rules-loop-number-init : goal.try-rules-loop-number-init
-try-rules-loop-number-init t c = (
+pub try_rules-loop-number-init : goal.try_rules-loop-number-init
+try_rules-loop-number-init t c = (
   search rules,
   search rules,
   refl,
@@ -248,24 +248,24 @@ try-rules-loop-number-init t c = (
   λ x lists. walk_start c.args.book.now c.args.task.now c.args.force.now x c.common-left.result.bits c.args.progress.now.count c.args.out.now c.args.progress.now.len lists,
 )
 
-pub try-rules-try-rule-requires : goal.try-rules-try-rule-requires
-try-rules-try-rule-requires t c =
+pub try_rules-try_rule-requires : goal.try_rules-try_rule-requires
+try_rules-try_rule-requires t c =
     let b = c.args.book.now in
     let k = c.args.task.now in
     let f = c.args.force.now in
     let x = c.args.name.index in
-    let lists : Lists b f x c.common-left.result.bits = lists_common b f x c.common-left.result.bits c.with-head.result.bits c.common-left.ensures c.with-head.ensures in
+    let lists : Lists b f x c.common-left.result.bits = lists_common b f x c.common-left.result.bits c.with_head.result.bits c.common-left.ensures c.with_head.ensures in
     let wk = c.loop-number.invariant.4 x lists in
     let a = walk_applies b k f x _ _ _ _ _ _ _ wk c.in-Some.number.index c.in-Some.ensures in
     (search rules, (sym (ap (λ (g : InForce). g.set) c.loop-number.invariant.2), (a.recorded, (search rules, omega (arith, c.loop-number.invariant.3)))))
 
-pub try-rules-returns-in-Yes : goal.try-rules-returns-in-Yes
-try-rules-returns-in-Yes t c =
+pub try_rules-returns-in-Yes : goal.try_rules-returns-in-Yes
+try_rules-returns-in-Yes t c =
     let b = c.args.book.now in
     let k = c.args.task.now in
     let f = c.args.force.now in
     let x = c.args.name.index in
-    let lists : Lists b f x c.common-left.result.bits = lists_common b f x c.common-left.result.bits c.with-head.result.bits c.common-left.ensures c.with-head.ensures in
+    let lists : Lists b f x c.common-left.result.bits = lists_common b f x c.common-left.result.bits c.with_head.result.bits c.common-left.ensures c.with_head.ensures in
     let wk = c.loop-number.invariant.4 x lists in
     let r = c.in-Some.number.index in
     let m = c.in-Some.ensures in
@@ -276,18 +276,18 @@ try-rules-returns-in-Yes t c =
       short = search rules;
       back = search rules;
       told = passing_succeeded b k f x r _ c.loop-number.progress.count c.args.out.now c.args.progress.now.len c.loop-number.out c.loop-number.progress.len pg
-          c.try-rule.new.progress.count c.try-rule.new.out c.try-rule.new.progress.len c.loop-number.auto.out a
-          (subst (λ (g : InForce). Told (BodiesAsked b k g r c.loop-number.progress.count c.try-rule.new.progress.count) (1 ∷ r ∷ []) c.loop-number.out c.loop-number.progress.len c.try-rule.new.out c.try-rule.new.progress.len Yes)
+          c.try_rule.new.progress.count c.try_rule.new.out c.try_rule.new.progress.len c.loop-number.auto.out a
+          (subst (λ (g : InForce). Told (BodiesAsked b k g r c.loop-number.progress.count c.try_rule.new.progress.count) (1 ∷ r ∷ []) c.loop-number.out c.loop-number.progress.len c.try_rule.new.out c.try_rule.new.progress.len Yes)
           c.loop-number.invariant.2 c.in-Yes.ensures.told);
     }
 
-pub try-rules-returns-in-Spent : goal.try-rules-returns-in-Spent
-try-rules-returns-in-Spent t c =
+pub try_rules-returns-in-Spent : goal.try_rules-returns-in-Spent
+try_rules-returns-in-Spent t c =
     let b = c.args.book.now in
     let k = c.args.task.now in
     let f = c.args.force.now in
     let x = c.args.name.index in
-    let lists : Lists b f x c.common-left.result.bits = lists_common b f x c.common-left.result.bits c.with-head.result.bits c.common-left.ensures c.with-head.ensures in
+    let lists : Lists b f x c.common-left.result.bits = lists_common b f x c.common-left.result.bits c.with_head.result.bits c.common-left.ensures c.with_head.ensures in
     let wk = c.loop-number.invariant.4 x lists in
     let r = c.in-Some.number.index in
     let m = c.in-Some.ensures in
@@ -298,16 +298,16 @@ try-rules-returns-in-Spent t c =
       short = search rules;
       back = search rules;
       told = passing_spent b k f x r _ c.loop-number.progress.count c.args.out.now c.args.progress.now.len c.loop-number.out c.loop-number.progress.len pg
-          c.try-rule.new.progress.count a
-          (subst (λ (g : InForce). BodiesAsked b k g r c.loop-number.progress.count c.try-rule.new.progress.count spent) c.loop-number.invariant.2 c.in-Spent.ensures.told);
+          c.try_rule.new.progress.count a
+          (subst (λ (g : InForce). BodiesAsked b k g r c.loop-number.progress.count c.try_rule.new.progress.count spent) c.loop-number.invariant.2 c.in-Spent.ensures.told);
     }
 
-pub try-rules-loop-number-smaller : goal.try-rules-loop-number-smaller
-try-rules-loop-number-smaller t c =
+pub try_rules-loop-number-smaller : goal.try_rules-loop-number-smaller
+try_rules-loop-number-smaller t c =
     c.rest-left.ensures.smaller (least_some c.loop-number.left.bits c.in-Some.number.index c.in-Some.ensures)
 
-pub try-rules-loop-number-preserved : goal.try-rules-loop-number-preserved
-try-rules-loop-number-preserved t c =
+pub try_rules-loop-number-preserved : goal.try_rules-loop-number-preserved
+try_rules-loop-number-preserved t c =
     let told = c.in-No.ensures.told in (
       search rules,
       search rules,
@@ -320,50 +320,50 @@ try-rules-loop-number-preserved t c =
           let wk = c.loop-number.invariant.4 x lists in
           let r = c.in-Some.number.index in
           let m = c.in-Some.ensures in
-          walk_next b k f x _ _ _ _ _ _ _ wk r c.rest-left.result.bits c.try-rule.new.progress.count c.try-rule.new.out c.try-rule.new.progress.len m
+          walk_next b k f x _ _ _ _ _ _ _ wk r c.rest-left.result.bits c.try_rule.new.progress.count c.try_rule.new.out c.try_rule.new.progress.len m
           (λ q. c.rest-left.ensures.members r q m)
           (passing_failed b k f x r _ c.loop-number.progress.count c.args.out.now c.args.progress.now.len c.loop-number.out c.loop-number.progress.len
           (walk_passing b k f x _ _ _ _ _ _ _ wk r m)
-          c.try-rule.new.progress.count c.try-rule.new.out c.try-rule.new.progress.len (walk_applies b k f x _ _ _ _ _ _ _ wk r m)
-          (subst (λ (g : InForce). Told (BodiesAsked b k g r c.loop-number.progress.count c.try-rule.new.progress.count) (1 ∷ r ∷ []) c.loop-number.out c.loop-number.progress.len c.try-rule.new.out c.try-rule.new.progress.len No)
+          c.try_rule.new.progress.count c.try_rule.new.out c.try_rule.new.progress.len (walk_applies b k f x _ _ _ _ _ _ _ wk r m)
+          (subst (λ (g : InForce). Told (BodiesAsked b k g r c.loop-number.progress.count c.try_rule.new.progress.count) (1 ∷ r ∷ []) c.loop-number.out c.loop-number.progress.len c.try_rule.new.out c.try_rule.new.progress.len No)
           c.loop-number.invariant.2 told)),
     )
 
-pub try-rules-try-restart-requires : goal.try-rules-try-restart-requires
-try-rules-try-restart-requires t c = (search rules, (search rules, omega (arith, c.loop-number.invariant.3)))
+pub try_rules-try_restart-requires : goal.try_rules-try_restart-requires
+try_rules-try_restart-requires t c = (search rules, (search rules, omega (arith, c.loop-number.invariant.3)))
 
-pub try-rules-returns-in-Allowed : goal.try-rules-returns-in-Allowed
-try-rules-returns-in-Allowed t c =
+pub try_rules-returns-in-Allowed : goal.try_rules-returns-in-Allowed
+try_rules-returns-in-Allowed t c =
     let b = c.args.book.now in
     let k = c.args.task.now in
     let f = c.args.force.now in
     let x = c.args.name.index in
-    let lists : Lists b f x c.common-left.result.bits = lists_common b f x c.common-left.result.bits c.with-head.result.bits c.common-left.ensures c.with-head.ensures in
+    let lists : Lists b f x c.common-left.result.bits = lists_common b f x c.common-left.result.bits c.with_head.result.bits c.common-left.ensures c.with_head.ensures in
     let wk = c.loop-number.invariant.4 x lists in
     record {
       counted = search rules;
       short = search rules;
       back = search rules;
       told = passing_restarted b k f x (length (records_of b)) _ c.loop-number.progress.count c.args.out.now c.args.progress.now.len c.loop-number.out c.loop-number.progress.len
-          (walk_end b k f x _ _ _ _ _ _ _ wk c.in-default.ensures)
-          c.try-restart.new.progress.count c.try-restart.new.out c.try-restart.new.progress.len c.try-restart.result c.loop-number.auto.out refl
+          (walk_end b k f x _ _ _ _ _ _ _ wk c.in_default.ensures)
+          c.try_restart.new.progress.count c.try_restart.new.out c.try_restart.new.progress.len c.try_restart.result c.loop-number.auto.out refl
           (subst (λ (v : Restart). T (allowed v)) (sym c.in-Allowed.is) tt)
-          (subst (λ (g : InForce). Told (NameAsked b k g k.goal.index c.loop-number.progress.count c.try-restart.new.progress.count) (2 ∷ []) c.loop-number.out c.loop-number.progress.len c.try-restart.new.out c.try-restart.new.progress.len c.try-restart.result)
-          c.loop-number.invariant.2 c.try-restart.ensures.told);
+          (subst (λ (g : InForce). Told (NameAsked b k g k.goal.index c.loop-number.progress.count c.try_restart.new.progress.count) (2 ∷ []) c.loop-number.out c.loop-number.progress.len c.try_restart.new.out c.try_restart.new.progress.len c.try_restart.result)
+          c.loop-number.invariant.2 c.try_restart.ensures.told);
     }
 
-pub try-rules-returns-in-Forbidden : goal.try-rules-returns-in-Forbidden
-try-rules-returns-in-Forbidden t c =
+pub try_rules-returns-in-Forbidden : goal.try_rules-returns-in-Forbidden
+try_rules-returns-in-Forbidden t c =
     let b = c.args.book.now in
     let k = c.args.task.now in
     let f = c.args.force.now in
     let x = c.args.name.index in
-    let lists : Lists b f x c.common-left.result.bits = lists_common b f x c.common-left.result.bits c.with-head.result.bits c.common-left.ensures c.with-head.ensures in
+    let lists : Lists b f x c.common-left.result.bits = lists_common b f x c.common-left.result.bits c.with_head.result.bits c.common-left.ensures c.with_head.ensures in
     let wk = c.loop-number.invariant.4 x lists in
     record {
       counted = search rules;
       short = search rules;
       back = search rules;
       told = passing_ended b k f x (length (records_of b)) _ c.loop-number.progress.count c.args.out.now c.args.progress.now.len c.loop-number.out c.loop-number.progress.len
-          (walk_end b k f x _ _ _ _ _ _ _ wk c.in-default.ensures) refl (subst (λ (v : Restart). T (not (allowed v))) (sym c.in-Forbidden.is) tt);
+          (walk_end b k f x _ _ _ _ _ _ _ wk c.in_default.ensures) refl (subst (λ (v : Restart). T (not (allowed v))) (sym c.in-Forbidden.is) tt);
     }
