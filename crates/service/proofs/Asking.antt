@@ -37,7 +37,7 @@ use Rattle.service.specs.declared.state.Sealed.{Sealed}
 use Rattle.service.specs.declared.state.State.TheVariants.{Shut}
 use Rattle.service.proofs.Failing.{over_fails, both_fail}
 use Rattle.service.proofs.Doing.{answered, turned_down, refused_in}
-use Rattle.service.proofs.Goals.{Questioned, the-goal, recorded, after-goal}
+use Rattle.service.proofs.Goals.{Questioned, the_goal, recorded, after_goal}
 
 -- ---- the query of a goal
 
@@ -170,7 +170,7 @@ pub does_ask : {K : Type 0} (kind : Kind K) (w : List ℕ) (buffer after : List 
     → Does kind (ask w task.budget buffer (allowed task.restart)) (Shut (record { register = g; book = b; marks = ms })) (asked (Ok r)) after
     (Shut (record { register = g''; book = b''; marks = ms }))
 does_ask {K} kind w buffer after task g g' g'' b b' b'' ms n m S low high short q of same_length r settled slots t h =
-    let x = the-goal kind w g g' g'' b b' b'' ms n m q slots t h in
+    let x = the_goal kind w g g' g'' b b' b'' ms n m q slots t h in
     let rules = (standing kind slots t).rules in
     let to = λ (o : search.Outcome) (k : ℕ).
     goal_asked (records_of b') (book_of rules x.goal) (in_force_of b') (mask (numbers [] rules)) n.index (number_of (stores [] rules) x.goal) S
@@ -181,7 +181,7 @@ does_ask {K} kind w buffer after task g g' g'' b b' b'' ms n m S low high short 
     (Shut (record { register = g''; book = b''; marks = ms })) h.shut
     (ask_refusal kind w (allowed task.restart) task.budget buffer slots t low high short ∙ ap refusal_of x.is)
     (x.goal, (x.keys, x.is), a.outcome, a.count, a.asked_so, a.answer_is, a.buffer_is)
-    (after-goal kind w g g' g'' b b' b'' ms n m q slots t h)
+    (after_goal kind w g g' g'' b b' b'' ms n m q slots t h)
 
 -- ---- check
 
@@ -212,7 +212,7 @@ module _ {K : Type 0} (kind : Kind K) (w tree : List ℕ) (restart : Bool) where
         → Does kind (check w tree restart) (Shut (record { register = g; book = b; marks = ms })) (checked (Ok v)) []
         (Shut (record { register = g''; book = b''; marks = ms }))
     does_check g'' b'' n m S name q of v judged slots t h =
-        let x = the-goal kind w g g' g'' b b' b'' ms n m q slots t h in
+        let x = the_goal kind w g g' g'' b b' b'' ms n m q slots t h in
         let rules = (standing kind slots t).rules in
         let j = goal_judged (records_of b') (book_of rules x.goal) (in_force_of b') (mask (numbers [] rules)) n.index
         (number_of (stores [] rules) x.goal) S name restart x.holds.book_is.records x.holds.book_is.in_force x.number_is
@@ -220,7 +220,7 @@ module _ {K : Type 0} (kind : Kind K) (w tree : List ℕ) (restart : Bool) where
         answered kind slots t (check w tree restart) (checked (Ok v)) [] (Shut (record { register = g''; book = b''; marks = ms })) h.shut
         (check_refusal slots t short ∙ ap refusal_of x.is)
         (x.goal, (x.keys, x.is), judged_so rules x.goal v j, refl)
-        (after-goal kind w g g' g'' b b' b'' ms n m q slots t h)
+        (after_goal kind w g g' g'' b b' b'' ms n m q slots t h)
       where
         judged_so : (rules : Rules) (goal : Rule) (v : Verdict)
             → Judged (book_of rules goal) restart (goal_query rules goal).name (goal_query rules goal ∷ []) 0 tree v

@@ -27,7 +27,7 @@ use Rattle.service.specs.declared.marks.Marks.{Marks}
 use Rattle.service.specs.declared.state.State.TheVariants.{Shut}
 use Rattle.service.proofs.Doing.{answered, turned_down, refused_in}
 use Rattle.service.proofs.Failing.{fails}
-use Rattle.service.proofs.Goals.{Questioned, the-goal, recorded, after-goal}
+use Rattle.service.proofs.Goals.{Questioned, the_goal, recorded, after_goal}
 
 -- what a test decides, it tells of each statement that says the same
 tells : {P Q : Type 0} (x : Bool) → Decides x P → (P → Q) → (Q → P) → T x ↔ Q
@@ -48,20 +48,20 @@ module _ {K : Type 0} (kind : Kind K) (w : List ℕ) (chart : Chart) (release : 
         → Does kind (look w chart release) (Shut (record { register = g; book = b; marks = ms })) (looked (Err fault.Release)) []
         (Shut (record { register = g''; book = b''; marks = ms }))
     does_look_past past slots t h =
-        let x = the-goal kind w g g' g'' b b' b'' ms n m q slots t h in
+        let x = the_goal kind w g g' g'' b b' b'' ms n m q slots t h in
         let outside : ltb release chart.size ≡ false =
         fails (ltb release chart.size) (λ l. omega (arith, past, ltb→lt release chart.size l)) in
         turned_down kind slots t (look w chart release) (record { number = 34; place = 0 }) (Shut (record { register = g''; book = b''; marks = ms }))
         h.shut
         (ap (λ (f : Option Refusal). or_else f (unless (ltb release chart.size) 34)) (ap refusal_of x.is)
         ∙ ap (λ (y : Bool). unless y 34) outside)
-        (after-goal kind w g g' g'' b b' b'' ms n m q slots t h)
+        (after_goal kind w g g' g'' b b' b'' ms n m q slots t h)
 
     pub does_look : (k : Holding) → HoldAt chart (records_of b') S n.index release (Some k)
         → Does kind (look w chart release) (Shut (record { register = g; book = b; marks = ms })) (looked (Ok k)) []
         (Shut (record { register = g''; book = b''; marks = ms }))
     does_look k (released, rules_told, goal_told, unused) slots t h =
-        let x = the-goal kind w g g' g'' b b' b'' ms n m q slots t h in
+        let x = the_goal kind w g g' g'' b b' b'' ms n m q slots t h in
         let rules = (standing kind slots t).rules in
         let same_records = x.holds.book_is.records in
         let same_force : S ≡ mask (numbers [] rules) = force ∙ x.holds.book_is.in_force in
@@ -82,4 +82,4 @@ module _ {K : Type 0} (kind : Kind K) (w : List ℕ) (chart : Chart) (release : 
           refl,
           refl,
         )
-        (after-goal kind w g g' g'' b b' b'' ms n m q slots t h)
+        (after_goal kind w g g' g'' b b' b'' ms n m q slots t h)

@@ -11,4 +11,4 @@ pub returns-in-Add : goal.returns-in-Add
 returns-in-Add g c charts bytes =
     carries_none (record { same = g.K.Key.same; reading = g.K.Written.reading }) charts c.args.call.now (Add c.in-Add.rule) c.in-Add.is refl
     (law.add c.in-Add.rule.now) (λ b. refl) bytes (Open c.args.draft.now) (Open c.add.new.self) (told c.add.result)
-    c.add.ensures c.of-change.result c.of-change.ensures
+    c.add.ensures c.of_change.result c.of_change.ensures

@@ -27,13 +27,13 @@ returns-in-None g c =
 pub loop-i-preserved : goal.loop-i-preserved
 loop-i-preserved g c =
     let below : c.loop-i.i < length c.args.calls.now = omega (arith, c.loop-i-test.true, c.min-count.ensures) in (
-      omega (arith, c.part-end-byte.ensures, c.loop-i.invariant.0),
+      omega (arith, c.part_end-byte.ensures, c.loop-i.invariant.0),
       λ charts slots trees₀ answers₀ trees size h.
           draft_one (record { same = g.K.Key.same; reading = g.K.Written.reading }) charts slots trees₀ answers₀ c.args.calls.now
-          (record { call = c.loop-i.i; byte = c.loop-i.byte }) c.loop-i.answers trees (Open c.loop-i.draft) (Open c.draft-call.new.draft)
-          _ c.in-Some.answer c.part-end-byte.result (c.loop-i.invariant.1 charts slots trees₀ answers₀ trees size h) below
+          (record { call = c.loop-i.i; byte = c.loop-i.byte }) c.loop-i.answers trees (Open c.loop-i.draft) (Open c.draft_call.new.draft)
+          _ c.in-Some.answer c.part_end-byte.result (c.loop-i.invariant.1 charts slots trees₀ answers₀ trees size h) below
           (omega (arith, c.loop-i-test.true, c.min-count.ensures, c.loop-i.auto.answers)) (omega (arith, c.loop-i.invariant.0, size))
-          (λ d. get_or_default c.args.calls.now c.loop-i.i d _ below) (c.in-Some.ensures charts) c.args.trees size c.part-end-byte.ensures,
+          (λ d. get_or_default c.args.calls.now c.loop-i.i d _ below) (c.in-Some.ensures charts) c.args.trees size c.part_end-byte.ensures,
     )
 
 pub returns : goal.returns

@@ -9,7 +9,7 @@ pub returns-then-chart-charts : goal.returns-then-chart-charts
 returns-then-chart-charts g c =
     looks (record { same = g.K.Key.same; reading = g.K.Written.reading }) g.C.Chart.value c.args.charts.now c.args.goal.now c.args.chart
     c.args.release c.args.sealed.now c.look.new.self (looked c.look.result) c.index-charts-chart.result c.if-chart-charts.true
-    (sym c.index-charts-chart.is) c.look.ensures c.of-look.result c.of-look.ensures
+    (sym c.index-charts-chart.is) c.look.ensures c.of_look.result c.of_look.ensures
 
 pub returns-else-chart-charts : goal.returns-else-chart-charts
 returns-else-chart-charts g c =

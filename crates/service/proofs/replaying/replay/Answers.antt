@@ -21,7 +21,7 @@ pub returns-then-place-count : goal.returns-then-place-count
 returns-then-place-count g c =
     let charts = map g.C.Chart.value c.args.charts.now in
     let slots = length c.args.slots.now in
-    let p = c.draft-calls-place in
+    let p = c.draft_calls-place in
     record {
       replays =
           replays (record { same = g.K.Key.same; reading = g.K.Written.reading }) charts slots c.args.trees.now c.args.answers.now c.args.calls.now
@@ -35,8 +35,8 @@ returns-then-place-count g c =
 pub returns-then-place-count-2 : goal.returns-then-place-count-2
 returns-then-place-count-2 g c =
     let charts = map g.C.Chart.value c.args.charts.now in
-    let p = c.draft-calls-place in
-    let q = c.sealed-calls-place in
+    let p = c.draft_calls-place in
+    let q = c.sealed_calls-place in
     let many : length p.new.answers ≡ length c.args.answers.now = p.auto.answers ∙ c.loop-place.auto.answers in
     let here : p.result.call < min (length c.args.calls.now) (length p.new.answers) = omega (arith, c.if-place-count.false, c.min-count.ensures, many) in
     let more : length q.new.answers ≡ length c.args.answers.now = q.auto.answers ∙ length-set p.new.answers p.result.call Done ∙ many in
@@ -58,8 +58,8 @@ returns-then-place-count-2 g c =
 pub loop-place-preserved : goal.loop-place-preserved
 loop-place-preserved g c =
     let charts = map g.C.Chart.value c.args.charts.now in
-    let p = c.draft-calls-place in
-    let q = c.sealed-calls-place in
+    let p = c.draft_calls-place in
+    let q = c.sealed_calls-place in
     let many : length p.new.answers ≡ length c.args.answers.now = p.auto.answers ∙ c.loop-place.auto.answers in
     let here : p.result.call < min (length c.args.calls.now) (length p.new.answers) = omega (arith, c.if-place-count.false, c.min-count.ensures, many) in
     let more : length q.new.answers ≡ length c.args.answers.now = q.auto.answers ∙ length-set p.new.answers p.result.call Done ∙ many in

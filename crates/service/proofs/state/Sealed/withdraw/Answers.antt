@@ -5,8 +5,8 @@ use Rattle.service.proofs.state.Sealed.withdraw.Goals as goal
 pub returns-in-Some : goal.returns-in-Some
 returns-in-Some g c =
     let s = c.args.self.now in
-    does_withdraw (record { same = g.K.Key.same; reading = g.K.Written.reading }) g.met.K.Key.reflexive s.register c.give-back.new.register
-    s.book c.give-back.new.book s.marks c.in-Some.mark c.take.new.self c.in-Some.ensures c.give-back.ensures
+    does_withdraw (record { same = g.K.Key.same; reading = g.K.Written.reading }) g.met.K.Key.reflexive s.register c.give_back.new.register
+    s.book c.give_back.new.book s.marks c.in-Some.mark c.take.new.self c.in-Some.ensures c.give_back.ensures
 
 pub returns-in-None : goal.returns-in-None
 returns-in-None g c =
