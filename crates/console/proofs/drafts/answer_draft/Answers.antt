@@ -6,5 +6,5 @@ use Rattle.console.proofs.Ordering.{draft_kept}
 
 pub returns : goal.returns
 returns c whole kept =
-    draft_kept (order_of c.read-order.result) (held c.args.line.now) whole c.args.draft.now c.obey-draft.new.draft c.obey-draft.result
-    (c.read-order.ensures ∙ ap ordered c.as-bytes.ensures) kept c.obey-draft.ensures
+    draft_kept (order_of c.read_order.result) (held c.args.line.now) whole c.args.draft.now c.obey_draft.new.draft c.obey_draft.result
+    (c.read_order.ensures ∙ ap ordered c.as_bytes.ensures) kept c.obey_draft.ensures

@@ -18,7 +18,7 @@ returns-in-Unknown c =
     other_prints (order_of c.args.order) (text c.bad.result) (Open c.args.draft.now)
     (ap (λ o. call_of (order_of o)) c.in-Unknown.is) c.bad.ensures
 
-pub returns-in-default : goal.returns-in-default
-returns-in-default c =
-    draft_not_taken (order_of c.args.order) (text c.bad-in-default.result) c.args.draft.now
-    (not_of_draft c.args.order c.in-default.not-Add c.in-default.not-Seal c.in-default.not-Unknown) c.bad-in-default.ensures
+pub returns-in_default : goal.returns-in_default
+returns-in_default c =
+    draft_not_taken (order_of c.args.order) (text c.bad-in_default.result) c.args.draft.now
+    (not_of_draft c.args.order c.in_default.not-Add c.in_default.not-Seal c.in_default.not-Unknown) c.bad-in_default.ensures

@@ -13,32 +13,32 @@ returns-in-None c =
     let some : 0 < length c.args.line.now = search rules in
     sym (by_mark c.args.line.now 43 some c.in-43.is ∙ c.in-None.ensures add)
 
-pub returns-in-Some-rule-behind : goal.returns-in-Some-rule-behind
-returns-in-Some-rule-behind c =
+pub returns-in-Some-rule_behind : goal.returns-in-Some-rule_behind
+returns-in-Some-rule_behind c =
     let some : 0 < length c.args.line.now = search rules in
-    sym (by_mark c.args.line.now 62 some c.in-62.is ∙ c.in-Some-rule-behind.ensures suppose)
+    sym (by_mark c.args.line.now 62 some c.in-62.is ∙ c.in-Some-rule_behind.ensures suppose)
 
-pub returns-in-None-rule-behind : goal.returns-in-None-rule-behind
-returns-in-None-rule-behind c =
+pub returns-in-None-rule_behind : goal.returns-in-None-rule_behind
+returns-in-None-rule_behind c =
     let some : 0 < length c.args.line.now = search rules in
-    sym (by_mark c.args.line.now 62 some c.in-62.is ∙ c.in-None-rule-behind.ensures suppose)
+    sym (by_mark c.args.line.now 62 some c.in-62.is ∙ c.in-None-rule_behind.ensures suppose)
 
-pub returns-in-Some-rule-behind-2 : goal.returns-in-Some-rule-behind-2
-returns-in-Some-rule-behind-2 c =
+pub returns-in-Some-rule_behind-2 : goal.returns-in-Some-rule_behind-2
+returns-in-Some-rule_behind-2 c =
     let some : 0 < length c.args.line.now = search rules in
-    sym (by_mark c.args.line.now 63 some c.in-63.is ∙ c.in-Some-rule-behind-2.ensures ask)
+    sym (by_mark c.args.line.now 63 some c.in-63.is ∙ c.in-Some-rule_behind-2.ensures ask)
 
-pub returns-in-None-rule-behind-2 : goal.returns-in-None-rule-behind-2
-returns-in-None-rule-behind-2 c =
+pub returns-in-None-rule_behind-2 : goal.returns-in-None-rule_behind-2
+returns-in-None-rule_behind-2 c =
     let some : 0 < length c.args.line.now = search rules in
-    sym (by_mark c.args.line.now 63 some c.in-63.is ∙ c.in-None-rule-behind-2.ensures ask)
+    sym (by_mark c.args.line.now 63 some c.in-63.is ∙ c.in-None-rule_behind-2.ensures ask)
 
-pub returns-in-Some-rule-behind-3 : goal.returns-in-Some-rule-behind-3
-returns-in-Some-rule-behind-3 c =
+pub returns-in-Some-rule_behind-3 : goal.returns-in-Some-rule_behind-3
+returns-in-Some-rule_behind-3 c =
     let some : 0 < length c.args.line.now = search rules in
-    sym (by_mark c.args.line.now 42 some c.in-42.is ∙ c.in-Some-rule-behind-3.ensures ask_again)
+    sym (by_mark c.args.line.now 42 some c.in-42.is ∙ c.in-Some-rule_behind-3.ensures ask_again)
 
-pub returns-in-None-rule-behind-3 : goal.returns-in-None-rule-behind-3
-returns-in-None-rule-behind-3 c =
+pub returns-in-None-rule_behind-3 : goal.returns-in-None-rule_behind-3
+returns-in-None-rule_behind-3 c =
     let some : 0 < length c.args.line.now = search rules in
-    sym (by_mark c.args.line.now 42 some c.in-42.is ∙ c.in-None-rule-behind-3.ensures ask_again)
+    sym (by_mark c.args.line.now 42 some c.in-42.is ∙ c.in-None-rule_behind-3.ensures ask_again)

@@ -7,5 +7,5 @@ use Rattle.console.proofs.Ordering.{prints_kept}
 
 pub returns : goal.returns
 returns c whole kept =
-    prints_kept (order_of c.read-order.result) (held c.args.line.now) whole (Shut c.args.sealed.now) (Shut c.obey-sealed.new.sealed)
-    (text c.obey-sealed.result) (c.read-order.ensures ∙ ap ordered c.as-bytes.ensures) kept c.obey-sealed.ensures
+    prints_kept (order_of c.read_order.result) (held c.args.line.now) whole (Shut c.args.sealed.now) (Shut c.obey_sealed.new.sealed)
+    (text c.obey_sealed.result) (c.read_order.ensures ∙ ap ordered c.as_bytes.ensures) kept c.obey_sealed.ensures

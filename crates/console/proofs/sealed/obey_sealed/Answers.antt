@@ -36,8 +36,8 @@ returns-in-Unknown c =
     other_prints (order_of c.args.order) (text c.bad.result) (Shut c.args.sealed.now)
     (ap (λ o. call_of (order_of o)) c.in-Unknown.is) c.bad.ensures
 
-pub returns-in-default : goal.returns-in-default
-returns-in-default c =
-    sealed_not_taken (order_of c.args.order) (text c.bad-in-default.result) c.args.sealed.now
-    (not_of_sealed c.args.order c.in-default.not-Suppose c.in-default.not-Withdraw c.in-default.not-Ask c.in-default.not-AskAgain c.in-default.not-Unknown)
-    c.bad-in-default.ensures
+pub returns-in_default : goal.returns-in_default
+returns-in_default c =
+    sealed_not_taken (order_of c.args.order) (text c.bad-in_default.result) c.args.sealed.now
+    (not_of_sealed c.args.order c.in_default.not-Suppose c.in_default.not-Withdraw c.in_default.not-Ask c.in_default.not-AskAgain c.in_default.not-Unknown)
+    c.bad-in_default.ensures

@@ -10,8 +10,8 @@ pub loop-byte-preserved : goal.loop-byte-preserved
 loop-byte-preserved c =
     hex_printed c.args.bytes.now c.loop-byte.byte-index
     c.args.self.now c.loop-byte.self c.byte.new.self c.byte-in-loop-byte.new.self
-    c.hex-digit.result c.hex-digit-in-loop-byte.result
-    c.loop-byte-test.true c.hex-digit.ensures c.hex-digit-in-loop-byte.ensures
+    c.hex_digit.result c.hex_digit-in-loop-byte.result
+    c.loop-byte-test.true c.hex_digit.ensures c.hex_digit-in-loop-byte.ensures
     c.loop-byte.invariant c.byte.ensures c.byte-in-loop-byte.ensures
 
 pub returns : goal.returns
