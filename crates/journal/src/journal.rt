@@ -100,7 +100,7 @@ impl<'j> Journal<'j> {
     /// `TREE GOAL`
     fn check(&mut self, words: &'j [u8], restart: Restart) -> Option<Entry<'j>> {
         let Split { word, rest } = split_once(words, b' ')?;
-        let tree = hex_bytes(self.trees.allocator(), word)?;
+        let tree = hex_bytes(*self.trees.allocator(), word)?;
         let from = self.trees.len();
         self.trees.extend_from_slice(&tree).ok()?;
         let end = self.trees.len();
@@ -123,7 +123,7 @@ impl<'j> Journal<'j> {
 
     /// A make and what it is filled from.
     fn chart(&mut self, words: &[u8]) -> Option<Entry<'j>> {
-        match read_chart(self.trees.allocator(), words)? {
+        match read_chart(*self.trees.allocator(), words)? {
             Ok(chart) => {
                 self.charts.push(chart).ok()?;
                 Some(Entry::Filled)

@@ -4,5 +4,5 @@ use Rattle.compare.proofs.judge.+read_read_rule.Given as goal
 abbrev pub decreases-read : goal.decreases-read
 decreases-read l = 2 * l.left
 
-abbrev pub decreases-read-rule : goal.decreases-read-rule
-decreases-read-rule l = 2 * l.left + 1
+abbrev pub decreases-read_rule : goal.decreases-read_rule
+decreases-read_rule l = 2 * l.left + 1
