@@ -1,9 +1,8 @@
 -- One more record keeps what is kept of a book.
-use Rattle.std.proofs.Common.{◌≡◌, ℕ, suc, ◌+◌, ◌^◌, ◌<◌, ◌≤◌, List, [], ◌∷◌, ◌++◌, length, set, sym, refl, ap, ◌∙◌, subst, pow-suc, add-one, arith}
+use Rattle.std.proofs.Common.{◌≡◌, ℕ, ◌+◌, ◌^◌, ◌<◌, [], ◌∷◌, ◌++◌, length, set, sym, ◌∙◌, subst, arith}
 use lib.Bits.{bit_or}
 use Rattle.std.proofs.lemmas.Nat.{pow_below}
-use Rattle.logic.specs.Rules as rules
-use Rattle.book.specs.Books.{records_of, names_of, MayStand}
+use Rattle.book.specs.Books.{records_of, MayStand}
 use Rattle.book.specs.Records.{stored, set_at, record_of, numbers}
 use Rattle.book.specs.declared.book.Book.{Book}
 use Rattle.book.specs.declared.record.Record.{Record}

@@ -1,6 +1,6 @@
 -- The keys of a rule get their numbers one after the other.
-use Rattle.std.proofs.Common.{◌≡◌, ℕ, suc, ◌+◌, ◌<◌, ◌≤◌, Bool, true, false, cond, leb, List, [], ◌∷◌, ◌++◌, map, length, get_or, sym, refl, ap, ◌∙◌, subst, ap₂, not-suc-le-zero, arith, length-append, le-leb}
-use mathlib.Core.Option.{Option, some}
+use Rattle.std.proofs.Common.{◌≡◌, ℕ, suc, ◌+◌, ◌<◌, ◌≤◌, Bool, true, false, cond, leb, List, [], ◌∷◌, ◌++◌, length, get_or, sym, refl, ap, ◌∙◌, subst, ap₂, arith, length-append, le-leb}
+use mathlib.Core.Option.{some}
 use borrow.Author.Tests.{lt-leb}
 use Rattle.std.specs.List.{AllByRecursion}
 use Rattle.std.proofs.lemmas.List.{append-nil, append_assoc, map-append, length_push, get_or_at}
@@ -9,7 +9,7 @@ use Rattle.keys.specs.Numbering.{number, appear}
 use Rattle.keys.specs.Registers.{room, Entered, LeftOut}
 use Rattle.keys.specs.declared.numbers.KeyNumber.{KeyNumber}
 use Rattle.keys.specs.declared.numbers.RegisterFault.{RegisterFault}
-use Rattle.keys.proofs.Numbering.{front_self, front_trans, appear_front, number_kept, has_number}
+use Rattle.keys.proofs.Numbering.{appear_front, number_kept, has_number}
 use Rattle.reader.specs.Written.{WrittenRule, Mention, mentions, places}
 use Rattle.book.specs.Entering.{all_appear, left_out, numbers_of}
 use Rattle.book.specs.KeyLists.{AllNumbered}

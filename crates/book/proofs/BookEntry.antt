@@ -1,5 +1,5 @@
 -- What entering a rule leaves in the book.
-use Rattle.std.proofs.Common.{◌≡◌, ℕ, suc, ◌+◌, ◌-◌, ◌%◌, ◌^◌, ◌<◌, ◌≤◌, min, max, List, [], ◌∷◌, ◌++◌, length, get_or, take, drop, sym, refl, ap, ◌∙◌, subst, ap₂, mod-eq_of_lt, arith, length-append, length-take}
+use Rattle.std.proofs.Common.{◌≡◌, ℕ, ◌+◌, ◌%◌, ◌^◌, ◌<◌, ◌≤◌, min, max, List, length, get_or, take, sym, ap, ◌∙◌, subst, ap₂, mod-eq_of_lt, arith, length-append, length-take}
 use Rattle.std.proofs.lemmas.List.{length_push, get_or-take}
 use Rattle.logic.specs.Rules.{Rule, Rules, rule, none, more}
 use Rattle.logic.specs.Rules as rules

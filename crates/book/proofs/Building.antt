@@ -1,11 +1,11 @@
 -- Records made as rules end, each with the records that wait for it as its bodies, are those of the stored rule.
-use Rattle.std.proofs.Common.{◌≡◌, ℕ, suc, ◌+◌, ◌-◌, ◌<◌, ◌≤◌, Bool, List, [], ◌∷◌, ◌++◌, map, length, get_or, take, drop, sym, refl, ap, ◌∙◌, subst, ap₂, arith, length-append}
+use Rattle.std.proofs.Common.{◌≡◌, ℕ, suc, ◌+◌, ◌-◌, ◌<◌, ◌≤◌, Bool, List, [], ◌∷◌, ◌++◌, length, get_or, take, drop, sym, refl, ap, ◌∙◌, subst, ap₂, arith, length-append}
 use Rattle.std.proofs.lemmas.List.{append-nil, append_assoc, map-append, length_push, take_at, drop_at, get_or_at}
 use Rattle.logic.specs.Rules.{Rule, Rules, rule, none, more, Book}
 use Rattle.logic.specs.Store.{store, number_of, stores, numbers}
 use Rattle.keys.specs.Numbering.{number}
 use Rattle.reader.specs.declared.outline.End.{End}
-use Rattle.reader.specs.Written.{WrittenRule, WrittenBodies, written, no_body, body, Mention, mentions, mentions_all, size, size_all, count, ends, ends_all}
+use Rattle.reader.specs.Written.{WrittenRule, WrittenBodies, written, no_body, body, mentions, mentions_all, size, size_all, count, ends, ends_all}
 use Rattle.book.specs.KeyLists.{NumberedLaidOut}
 use Rattle.book.specs.Entering.{numbered, all_numbered, numbers_of, heads, all_heads, many, endings, all_endings, LaidOut}
 

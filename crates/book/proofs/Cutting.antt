@@ -1,12 +1,11 @@
 -- A book cut back keeps what is kept of a book.
-use Rattle.std.proofs.Common.{◌≡◌, ℕ, zero, suc, ◌+◌, ◌%◌, ◌^◌, ◌<◌, ◌≤◌, min, max, List, [], ◌∷◌, ◌++◌, map, length, get_or, take, sym, refl, ap, ◌∙◌, subst, inl, inr, mod-eq_of_lt, arith, length-take}
+use Rattle.std.proofs.Common.{◌≡◌, ℕ, zero, suc, ◌+◌, ◌%◌, ◌^◌, ◌<◌, ◌≤◌, min, max, List, [], ◌∷◌, ◌++◌, map, length, get_or, take, sym, ap, ◌∙◌, subst, inl, inr, mod-eq_of_lt, arith}
 use native.Mathlib.Nat.{pow-le-pow_right}
-use Rattle.std.proofs.lemmas.Nat.{pow_pos, mod_below, pow_below}
 use Rattle.std.proofs.lemmas.List.{take_more, map_push, take_all}
 use Rattle.std.proofs.lemmas.Bool.{cases_lt}
 use Rattle.logic.specs.Rules as rules
 use Rattle.logic.specs.Rules.{head_of}
-use Rattle.book.specs.Books.{records_of, names_of, needed, HeadsBelow}
+use Rattle.book.specs.Books.{records_of, needed, HeadsBelow}
 use Rattle.book.specs.Records.{stored, set_at, record_of}
 use Rattle.book.specs.declared.book.Book.{Book}
 use Rattle.book.specs.declared.record.Record.{Record}

@@ -1,5 +1,5 @@
 -- What is kept of every book: bodies come earlier, and the sets by head list exactly the records in use.
-use Rattle.std.proofs.Common.{◌≡◌, ℕ, zero, suc, ◌+◌, ◌-◌, ◌*◌, ◌/◌, ◌%◌, ◌^◌, ◌<◌, ◌≤◌, ◌⊎◌, List, [], ◌∷◌, ◌++◌, length, get_or, take, sym, refl, ap, ◌∙◌, subst, inl, inr, arith, length-take}
+use Rattle.std.proofs.Common.{◌≡◌, ℕ, zero, suc, ◌+◌, ◌-◌, ◌/◌, ◌%◌, ◌^◌, ◌<◌, ◌≤◌, ◌⊎◌, List, [], ◌∷◌, ◌++◌, length, get_or, take, sym, ap, ◌∙◌, subst, inl, inr, arith, length-take}
 use lib.Bits.{bit_or}
 use Rattle.std.proofs.lemmas.Nat.{field_of, mod-pow-add, mod-mul-add, pow_pos, mod_below}
 use Rattle.std.proofs.lemmas.Bool.{cases_eq, cases_lt}

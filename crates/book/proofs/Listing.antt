@@ -1,5 +1,5 @@
 -- One more body.
-use Rattle.std.proofs.Common.{◌≡◌, ℕ, ◌+◌, ◌^◌, ◌<◌, List, [], ◌∷◌, ◌++◌, map, length, get_or, take, set, sym, refl, ap, ◌∙◌, arith, length-take}
+use Rattle.std.proofs.Common.{◌≡◌, ℕ, ◌+◌, ◌^◌, ◌<◌, List, [], ◌∷◌, ◌++◌, map, length, get_or, take, set, sym, ap, ◌∙◌, arith, length-take}
 use lib.Bits.{bit_or, or_zero_l, or_zero_r}
 use lib.ListN.{length-map}
 use Rattle.std.proofs.lemmas.List.{map-set, take_more_set, take_more, get_or-map, get_or-take}

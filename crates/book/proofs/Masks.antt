@@ -1,8 +1,8 @@
 -- The members of sets of records.
-use Rattle.std.proofs.Common.{◌≡◌, ℕ, zero, suc, ◌+◌, ◌-◌, ◌/◌, ◌%◌, ◌^◌, ◌<◌, ◌≤◌, min, eqb, ◌↔◌, Decides, sym, refl, ap, ◌∙◌, subst, inl, inr, pow-suc, div-one, one-add, arith}
+use Rattle.std.proofs.Common.{◌≡◌, ℕ, zero, suc, ◌-◌, ◌/◌, ◌%◌, ◌^◌, ◌<◌, ◌≤◌, min, eqb, ◌↔◌, Decides, sym, refl, ap, ◌∙◌, subst, inl, inr, pow-suc, div-one, one-add, arith}
 use lib.Bits.{bit_and, and_step, and_shr, and_self, and_le_r, and_mask}
 use lib.Count.{count_trailing_zeros, under}
-use Rattle.std.proofs.lemmas.Nat.{mod-mul-add, shr-shr}
+use Rattle.std.proofs.lemmas.Nat.{shr-shr}
 use Rattle.std.proofs.lemmas.Bool.{cases_eq, eqb-true, eq-eqb}
 use Rattle.logic.specs.Sets.{Has}
 use Rattle.logic.proofs.Sets.{has_zero}

@@ -1,11 +1,9 @@
 -- Rules end one after the other, and their records are put behind the others.
-use Rattle.std.proofs.Common.{◌≡◌, ℕ, ◌+◌, ◌-◌, ◌<◌, ◌≤◌, List, [], ◌∷◌, ◌++◌, length, get_or, take, drop, Some, None, Option, sym, refl, ap, ◌∙◌, subst, ap₂, arith, length-take}
+use Rattle.std.proofs.Common.{◌≡◌, ℕ, ◌+◌, ◌<◌, ◌≤◌, List, [], ◌∷◌, ◌++◌, length, get_or, drop, Some, None, Option, sym, refl, ap, ◌∙◌, subst, ap₂, arith, length-take}
 use Rattle.std.proofs.lemmas.List.{length_push, drop_more, drop_all, same_from_push}
 use Rattle.logic.specs.Sets.{AllBelow}
-use Rattle.logic.specs.Rules as rules
 use Rattle.logic.specs.Rules.{Rule}
 use Rattle.logic.specs.Store.{store, number_of}
-use Rattle.keys.specs.Kept.{Front}
 use Rattle.keys.proofs.Numbering.{front_self, front_trans}
 use Rattle.reader.specs.declared.outline.End.{End}
 use Rattle.book.specs.Books.{records_of}
@@ -13,7 +11,7 @@ use Rattle.book.specs.Entering.{LaidOut}
 use Rattle.book.specs.Entries.{others, Last, RuleEnds, Longer, Stored}
 use Rattle.book.specs.declared.book.Book.{Book}
 use Rattle.book.specs.declared.number.RecordNumber.{RecordNumber}
-use Rattle.book.proofs.Building.{Built, Ready, Builds, step, laid_out_builds}
+use Rattle.book.proofs.Building.{Built, Builds, step, laid_out_builds}
 use Rattle.book.proofs.Listing.{below_push}
 use Rattle.book.proofs.Waits.{below_take, below_longer}
 

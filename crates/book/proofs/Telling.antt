@@ -1,5 +1,5 @@
 -- What stands at the place of a record in use is the record of the book.
-use Rattle.std.proofs.Common.{◌≡◌, ℕ, ◌<◌, ◌≤◌, length, get_or, sym, ap, ◌∙◌, arith}
+use Rattle.std.proofs.Common.{◌≡◌, ℕ, ◌<◌, ◌≤◌, length, get_or, sym, ap, arith}
 use Rattle.std.proofs.lemmas.List.{get_or_default}
 use Rattle.logic.specs.Rules as rules
 use Rattle.logic.specs.Rules.{head_of, bodies_of, blank, WellFormed}

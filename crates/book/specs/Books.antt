@@ -3,8 +3,7 @@ use Rattle.std.specs.Prelude.{◌≡◌, ℕ, suc, ◌%◌, ◌^◌, ◌<◌, �
 use Rattle.logic.specs.Sets.{AllBelow}
 use Rattle.logic.specs.Rules as rules
 use Rattle.book.specs.Limits.{most_records}
-use Rattle.book.specs.Records.{stored, numbers}
-use Rattle.book.specs.declared.bodies.Bodies.{Bodies}
+use Rattle.book.specs.Records.{stored}
 use Rattle.book.specs.declared.number.RecordNumber.{RecordNumber}
 use Rattle.book.specs.declared.book.Book.{Book}
 

@@ -3,7 +3,7 @@ use Rattle.std.specs.Prelude.{◌≡◌, ℕ, suc, ◌+◌, Bool, cond, List, []
 use Rattle.std.proofs.Math.Option.{Option, some}
 use Rattle.logic.specs.Rules.{Rule, Rules, rule, none, more}
 use Rattle.keys.specs.Numbering.{number, appear}
-use Rattle.reader.specs.Written.{WrittenRule, WrittenBodies, written, no_body, body, Mention, mentions}
+use Rattle.reader.specs.Written.{WrittenRule, WrittenBodies, written, no_body, body, Mention}
 use Rattle.reader.specs.declared.outline.End.{End}
 
 module _ {K : Type 0} (same : K → K → Bool) where

@@ -1,5 +1,5 @@
 -- What records and their parts stand for.
-use Rattle.std.specs.Prelude.{◌≡◌, ℕ, ◌<◌, ◌≤◌, List, [], ◌∷◌, ◌++◌, map, length, take, Some, None, Option, slice_index_or}
+use Rattle.std.specs.Prelude.{◌≡◌, ℕ, ◌<◌, List, [], ◌∷◌, ◌++◌, map, length, take, Some, None, Option, slice_index_or}
 use Rattle.logic.specs.Rules as rules
 use Rattle.book.specs.Limits.{most_bodies}
 use Rattle.book.specs.Numbers.{listed}

@@ -6,7 +6,7 @@ use Rattle.reader.specs.Limits.{rule_bytes}
 use Rattle.reader.specs.Readings.{refused}
 use Rattle.reader.specs.Text.{oversize}
 use Rattle.reader.specs.TextTotal.{text_reading}
-use Rattle.reader.specs.Written.{Refusal, Reading, unread}
+use Rattle.reader.specs.Written.{Refusal, unread}
 use Rattle.reader.proofs.TextAnswer.{one_answer}
 use Rattle.law.specs.Calls.{Call, Answer, Tally, at_start, Takes, handed, of_sealed, unless_refused}
 use Rattle.law.specs.Limits.{most_suppositions, largest_budget, tree_bytes}
@@ -14,7 +14,7 @@ use Rattle.law.specs.Defined.{Defined, refuses, answers, refusal, refusal_of, un
 use Rattle.law.specs.Standing.{enter_read}
 use Rattle.console.specs.Console.{names, call_of, shown, Answered, made, not_taken, other}
 use Rattle.console.specs.Limits.{line_bytes, budget, room}
-use Rattle.console.specs.Orders.{Ordered, add, seal, suppose, withdraw, ask, ask_again, unknown, marked, ordered}
+use Rattle.console.specs.Orders.{Ordered, add, seal, suppose, ask, ask_again, marked, ordered}
 
 -- a rule that is too long
 abbrev too_long : Refusal

@@ -2,9 +2,9 @@
 use Rattle.std.proofs.Common.{◌≡◌, ℕ, Bool, true, false, List, take, Some, None, Option, sym, refl, ap, ◌∙◌, subst, arith, Bor}
 use mathlib.Core.Option.{none, some}
 use Rattle.reader.specs.declared.name.Name.{Name}
-use Rattle.law.specs.Calls.{Call, Answer, Tally, Takes, of_sealed}
+use Rattle.law.specs.Calls.{Call, Answer, of_sealed}
 use Rattle.law.specs.Defined.{next}
-use Rattle.service.specs.Represents.{Represents, Does}
+use Rattle.service.specs.Represents.{Does}
 use Rattle.service.specs.declared.state.Draft.{Draft}
 use Rattle.service.specs.declared.state.Sealed.{Sealed}
 use Rattle.service.specs.declared.state.State.{State}

@@ -1,9 +1,9 @@
 -- Whole lines, piece by piece.
-use Rattle.std.proofs.Common.{◌≡◌, ℕ, ◌-◌, ◌*◌, ◌^◌, ◌<◌, ◌≤◌, min, List, [], ◌∷◌, ◌++◌, length, take, drop, codes, decimal, sym, refl, ap, ◌∙◌, arith, lit<, length-append, take_all}
+use Rattle.std.proofs.Common.{◌≡◌, ℕ, ◌-◌, ◌*◌, ◌^◌, ◌<◌, ◌≤◌, min, List, [], ◌∷◌, ◌++◌, length, take, drop, codes, decimal, sym, refl, ap, ◌∙◌, arith, length-append, take_all}
 use native.Mathlib.Decide.{dec_le}
 use Rattle.std.proofs.lemmas.Fmt.{length-decimal-le}
 use Rattle.console.specs.declared.printed.Printed.{Printed}
-use Rattle.console.specs.Limits.{printed_bytes, room}
+use Rattle.console.specs.Limits.{room}
 use Rattle.console.specs.Lines.{blank, feed, bad_line, count_line, yes_line}
 use Rattle.console.specs.Texts.{text, Prints, hex_all}
 use Rattle.console.proofs.Pieces.{joined, finished}

@@ -1,5 +1,5 @@
 -- What the console prints for a line, told from the tally alone, and the tally after it.
-use Rattle.std.specs.Prelude.{◌≡◌, ℕ, Bool, true, false, List, take, codes}
+use Rattle.std.specs.Prelude.{◌≡◌, ℕ, true, false, List, take, codes}
 use Rattle.std.proofs.Math.Option.{Option, none, some}
 use Rattle.reader.specs.declared.name.Name.{Name}
 use Rattle.reader.specs.Names.{same_name}

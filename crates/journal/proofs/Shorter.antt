@@ -1,5 +1,5 @@
 -- What stands behind a mark is shorter than the whole.
-use Rattle.std.proofs.Common.{◌≡◌, ℕ, ◌+◌, ◌-◌, ◌<◌, List, length, drop, ap, ◌∙◌, arith, length-drop}
+use Rattle.std.proofs.Common.{◌≡◌, ℕ, ◌+◌, ◌-◌, ◌<◌, List, length, ap, ◌∙◌, arith, length-drop}
 use Rattle.journal.specs.Splitting.{Splits}
 
 pub shorter : (line : List ℕ) (mark : ℕ) (word rest : List ℕ) → Splits line mark word rest → length rest < length line

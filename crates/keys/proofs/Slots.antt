@@ -1,9 +1,9 @@
 -- The keys that have a number as the front of the slots.
-use Rattle.std.proofs.Common.{◌≡◌, ℕ, suc, ◌+◌, ◌-◌, ◌<◌, ◌≤◌, min, Bool, true, false, cond, List, [], ◌∷◌, ◌++◌, length, get_or, take, drop, set, Option, sym, refl, ap, ◌∙◌, subst, ⊎_elim, arith, length-set, length-take, take_all}
+use Rattle.std.proofs.Common.{◌≡◌, ℕ, suc, ◌+◌, ◌-◌, ◌<◌, ◌≤◌, min, Bool, true, false, cond, List, [], ◌∷◌, ◌++◌, length, get_or, take, drop, set, Option, sym, refl, ap, ◌∙◌, subst, ⊎_elim, arith, length-take, take_all}
 use native.Mathlib.Nat.{min-eq_left, min-eq_right, sub-zero}
 use Rattle.std.proofs.lemmas.List.{drop_more, drop_all, take_more_set, length_push}
 use Rattle.std.proofs.lemmas.Bool.{cases_lt}
-use Rattle.keys.specs.Numbering.{number, appear}
+use Rattle.keys.specs.Numbering.{number}
 use Rattle.keys.specs.Registers.{room, First, Entered, LeftOut}
 use Rattle.keys.specs.declared.numbers.KeyNumber.{KeyNumber}
 use Rattle.keys.specs.declared.numbers.RegisterFault.{RegisterFault}

@@ -3,7 +3,7 @@ use Rattle.std.proofs.Common.{◌≡◌, ℕ, ◌+◌, ◌<◌, ◌≤◌, Bool,
 use Rattle.std.proofs.lemmas.List.{drop_more, drop_all}
 use Rattle.logic.proofs.Check.{check_right}
 use Rattle.logic.proofs.Rejection.{rejects_right}
-use Rattle.logic.specs.Check.{RejectsRight, body_queries, Answers, none_waits, rule_byte, restart_byte, Rejects, too_many, no_kind, no_record, wrong_kind, no_restart, wrong_record, after_record, after_restart}
+use Rattle.logic.specs.Check.{body_queries, Answers, none_waits, rule_byte, restart_byte, Rejects, too_many, no_kind, no_record, wrong_kind, no_restart, wrong_record, after_record, after_restart}
 use Rattle.logic.specs.Rules as rules
 use Rattle.logic.specs.Rules.{head_of, bodies_of, supposing}
 use Rattle.logic.specs.Search.{Query}

@@ -3,7 +3,6 @@ use Rattle.std.proofs.Common.{◌≡◌, ℕ, ◌-◌, ◌≤◌, List, [], ◌+
 use Rattle.std.proofs.lemmas.List.{take_at}
 use Rattle.logic.proofs.Begun.{tracks_kept}
 use Rattle.logic.proofs.Success.{success_right}
-use Rattle.logic.specs.Begun.{TracksKept}
 use Rattle.logic.specs.Search.{Outcome, succeeded}
 use Rattle.logic.specs.Trees.{bytes}
 use Rattle.book.specs.declared.book.Book.{Book}

@@ -2,7 +2,7 @@
 use Rattle.std.proofs.Common.{◌≡◌, ℕ, zero, ◌+◌, ◌^◌, ◌≤◌, List, [], ◌∷◌, length, sym, refl, ◌∙◌, subst, add-one, arith}
 use lib.Bits.{bit_or}
 use Rattle.logic.proofs.Begun.{tracks_kept}
-use Rattle.logic.specs.Begun.{Tracks, TracksKept}
+use Rattle.logic.specs.Begun.{Tracks}
 use Rattle.logic.specs.Rules.{head_of, bodies_of, supposing}
 use Rattle.logic.specs.Search.{Query, On, Outcome, succeeded, failed, spent, Asked, barred, no_budget, begun, Tried, Bodies}
 use Rattle.logic.specs.Sets.{Has, mask}

@@ -1,7 +1,6 @@
 -- What the search's loops have come to so far.
 use Rattle.std.proofs.Common.{◌≡◌, ℕ, zero, suc, ◌+◌, ◌-◌, ◌<◌, ◌≤◌, not, T, ◌↔◌, List, [], ◌∷◌, ◌++◌, length, get_or, take, drop, sym, refl, ap, ◌∙◌, subst, append_assoc, append-nil, arith}
 use Rattle.std.proofs.lemmas.List.{drop_more, drop_all}
-use Rattle.logic.specs.Begun.{Tracks}
 use Rattle.logic.specs.Rules.{head_of, supposing}
 use Rattle.logic.specs.Search.{Query, Outcome, succeeded, failed, spent, Setting, Asked, Tried, passed, rule_succeeds, rule_fails, rule_spent, gives_up, restart_succeeds, restart_fails, restart_spent, Bodies, all_asked, body_fails, body_spent, rest_succeeds, rest_fails, rest_spent}
 use Rattle.logic.specs.Sets.{Has}

@@ -1,7 +1,6 @@
 -- What ask and check do.
-use Rattle.std.proofs.Common.{◌≡◌, ℕ, ◌-◌, ◌<◌, ◌≤◌, Bool, true, false, cond, ◌&&◌, T, leb, List, [], ◌∷◌, ◌++◌, length, Ok, Err, sym, refl, ap, ◌∙◌, subst, ap₂, arith, leb→le, length-append}
-use mathlib.Core.Option.{Option, none, some}
-use Rattle.logic.specs.Check.{Answers, Rejects}
+use Rattle.std.proofs.Common.{◌≡◌, ℕ, ◌-◌, ◌<◌, ◌≤◌, Bool, true, false, cond, ◌&&◌, leb, List, [], ◌∷◌, ◌++◌, length, Ok, Err, sym, refl, ap, ◌∙◌, subst, ap₂, arith, leb→le, length-append}
+use mathlib.Core.Option.{Option}
 use Rattle.logic.specs.Rules.{Rule, Rules, head_of, supposing, Book as Records}
 use Rattle.logic.specs.Search as search
 use Rattle.logic.specs.Search.{Asked, Query, succeeded, failed}
@@ -10,7 +9,7 @@ use Rattle.logic.specs.Store.{stores, numbers, number_of, book_of, RulesAsked}
 use Rattle.logic.specs.Theorems.{GoalAsked}
 use Rattle.keys.specs.declared.register.Register.{Register}
 use Rattle.reader.specs.Written.{Refusal, Kind}
-use Rattle.book.specs.Books.{records_of, names_of, in_force_of}
+use Rattle.book.specs.Books.{records_of, in_force_of}
 use Rattle.book.specs.declared.book.Book.{Book}
 use Rattle.book.specs.declared.book.Mark.{Mark}
 use Rattle.book.specs.declared.number.RecordNumber.{RecordNumber}
@@ -23,14 +22,13 @@ use Rattle.prover.specs.declared.task.Task.{Task}
 use Rattle.prover.specs.declared.verdict.Verdict.{Verdict}
 use Rattle.prover.specs.declared.verdict.Verdict.TheVariants.{Accepted, Rejected}
 use Rattle.law.specs.Limits.{largest_budget, tree_bytes}
-use Rattle.law.specs.Standing.{Standing}
-use Rattle.law.specs.Calls.{Call, ask, check, Answer, refused, long, handed, Tally}
+use Rattle.law.specs.Calls.{ask, check, Answer, refused, long, Tally}
 use Rattle.law.specs.Defined.{standing, unless, or_else, refusal_of, entering, zeros, found, filled, refusal, goal_query, Checked, accepts, rejects}
-use Rattle.law.proofs.Refusals.{le_passes, none_or, passed_unless}
+use Rattle.law.proofs.Refusals.{le_passes, passed_unless}
 use Rattle.service.specs.Contents.{TakesIn}
 use Rattle.service.specs.Faults as faults
 use Rattle.service.specs.Questions.{asked, checked}
-use Rattle.service.specs.Represents.{SealedHolds, Does}
+use Rattle.service.specs.Represents.{Does}
 use Rattle.service.specs.declared.fault.Fault.{Fault}
 use Rattle.service.specs.declared.marks.Marks.{Marks}
 use Rattle.service.specs.declared.state.Sealed.{Sealed}

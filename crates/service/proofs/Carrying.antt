@@ -7,7 +7,7 @@ use Rattle.reader.specs.Written.{Kind}
 use Rattle.law.specs.Calls as law
 use Rattle.law.specs.Calls.{Tally, Takes}
 use Rattle.service.specs.Calls.{room_of, chart_at, look_at, call_of, answer_of}
-use Rattle.service.specs.Represents.{SealedHolds, Represents, Does}
+use Rattle.service.specs.Represents.{Represents, Does}
 use Rattle.service.specs.Replaying.{Came, CarriesOut, Looks}
 use Rattle.service.specs.declared.calls.Answer.{Answer}
 use Rattle.service.specs.declared.calls.Call.{Call}

@@ -1,6 +1,6 @@
 -- What each call does, from what its parts leave behind.
-use Rattle.std.proofs.Common.{◌≡◌, ℕ, ◌<◌, true, false, List, [], ◌∷◌, ◌++◌, map, length, Ok, Err, Result, sym, refl, ap, ◌∙◌, subst}
-use mathlib.Core.Option.{Option, none, some}
+use Rattle.std.proofs.Common.{◌≡◌, ℕ, List, [], map, Ok, Err, sym, refl, ap, ◌∙◌, subst}
+use mathlib.Core.Option.{none, some}
 use Rattle.logic.specs.Rules.{Rule}
 use Rattle.logic.specs.Store.{store}
 use Rattle.keys.specs.Registers.{keys_in, slots_of}

@@ -1,5 +1,5 @@
 -- Tests that fail.
-use Rattle.std.proofs.Common.{◌≡◌, ℕ, ◌<◌, ◌≤◌, Bool, true, false, ◌&&◌, T, leb, sym, refl, subst, arith, leb→le}
+use Rattle.std.proofs.Common.{◌≡◌, ℕ, ◌<◌, Bool, true, false, ◌&&◌, T, leb, refl, arith, leb→le}
 
 pub fails : (x : Bool) → (T x → ⊥) → x ≡ false
 fails true h = absurd (h tt)

@@ -1,5 +1,5 @@
 -- A goal that is taken in and given back.
-use Rattle.std.proofs.Common.{◌≡◌, ℕ, ◌<◌, true, List, [], length, Ok, sym, refl, ap, ◌∙◌, subst, mod-eq_of_lt, arith}
+use Rattle.std.proofs.Common.{◌≡◌, ℕ, ◌<◌, true, List, [], length, Ok, refl, ap, ◌∙◌, subst, mod-eq_of_lt, arith}
 use Rattle.logic.specs.Rules.{Rule}
 use Rattle.logic.specs.Store.{stores, number_of}
 use Rattle.keys.specs.declared.register.Register.{Register}

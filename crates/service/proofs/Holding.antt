@@ -1,14 +1,14 @@
 -- What a register and a book hold after they have grown or were cut back.
-use Rattle.std.proofs.Common.{◌≡◌, ℕ, suc, ◌%◌, ◌^◌, ◌<◌, ◌≤◌, min, max, List, [], ◌∷◌, ◌++◌, length, take, sym, refl, ap, ◌∙◌, subst, arith, length-take}
+use Rattle.std.proofs.Common.{◌≡◌, ℕ, ◌%◌, ◌^◌, ◌<◌, ◌≤◌, min, max, List, [], ◌∷◌, ◌++◌, length, take, sym, ap, ◌∙◌, arith}
 use lib.Bits.{bit_or}
 use Rattle.logic.specs.Sets.{mask}
 use Rattle.logic.specs.Rules as rules
 use Rattle.logic.specs.Rules.{rule, more}
-use Rattle.logic.specs.Store.{store, stores, numbers, number_of, book_of}
+use Rattle.logic.specs.Store.{store, stores, numbers, number_of}
 use Rattle.keys.specs.Kept.{Front}
 use Rattle.keys.specs.declared.register.Register.{Register}
 use Rattle.keys.proofs.Numbering.{front_take}
-use Rattle.book.specs.Books.{Shows, PutInForce, records_of, names_of, needed}
+use Rattle.book.specs.Books.{PutInForce, records_of, names_of, needed}
 use Rattle.book.specs.declared.book.Book.{Book}
 use Rattle.law.specs.Standing.{Standing, behind}
 use Rattle.law.specs.Kept.{HeadsBelow, AllHeadsBelow}

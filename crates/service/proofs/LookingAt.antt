@@ -1,10 +1,10 @@
 -- What look does.
-use Rattle.std.proofs.Common.{◌≡◌, ℕ, ◌<◌, ◌≤◌, Bool, true, false, T, ltb, ◌↔◌, List, [], length, Some, None, Ok, Err, Decides, sym, refl, ap, ◌∙◌, subst, arith, ltb→lt}
-use mathlib.Core.Option.{Option, none, some}
-use Rattle.logic.specs.Charts.{Chart, Holds, AllHold, SetHolds}
+use Rattle.std.proofs.Common.{◌≡◌, ℕ, Bool, false, T, ltb, ◌↔◌, List, [], Some, None, Ok, Err, Decides, sym, refl, ap, ◌∙◌, subst, arith, ltb→lt}
+use mathlib.Core.Option.{Option}
+use Rattle.logic.specs.Charts.{Chart, Holds, SetHolds}
 use Rattle.logic.specs.Rules.{rule_of, Book as Records}
 use Rattle.logic.specs.Sets.{mask}
-use Rattle.logic.specs.Store.{stores, numbers, number_of, book_of}
+use Rattle.logic.specs.Store.{numbers, book_of}
 use Rattle.logic.proofs.Store.{goal_stored, to_set, from_set}
 use Rattle.keys.specs.declared.register.Register.{Register}
 use Rattle.reader.specs.Written.{Refusal, Kind}
@@ -14,13 +14,13 @@ use Rattle.book.specs.declared.book.Mark.{Mark}
 use Rattle.book.specs.declared.number.RecordNumber.{RecordNumber}
 use Rattle.charts.specs.Judging.{HoldAt}
 use Rattle.charts.specs.declared.judging.Holding.{Holding}
-use Rattle.law.specs.Calls.{look, refused, Tally}
-use Rattle.law.specs.Defined.{standing, unless, or_else, refusal_of, entering}
+use Rattle.law.specs.Calls.{look, refused}
+use Rattle.law.specs.Defined.{standing, unless, or_else, refusal_of}
 use Rattle.law.proofs.Refusals.{passed, passes, lt_passes, none_or, passed_unless}
 use Rattle.service.specs.Contents.{TakesIn}
 use Rattle.service.specs.Faults as faults
 use Rattle.service.specs.Looking.{looked}
-use Rattle.service.specs.Represents.{SealedHolds, Does}
+use Rattle.service.specs.Represents.{Does}
 use Rattle.service.specs.declared.fault.Fault.{Fault}
 use Rattle.service.specs.declared.fault.Fault.TheVariants as fault
 use Rattle.service.specs.declared.marks.Marks.{Marks}

@@ -1,5 +1,5 @@
 -- Replaying one call more, and what is replayed in the end.
-use Rattle.std.proofs.Common.{◌≡◌, ℕ, ◌+◌, ◌-◌, ◌<◌, ◌≤◌, min, List, [], ◌∷◌, ◌++◌, length, get_or, take, drop, set, sym, refl, ap, ◌∙◌, subst, ap₂, arith, length-append, length-drop, length-set, take-append-drop, length-take, drop-drop, drop-set-lt, take-add}
+use Rattle.std.proofs.Common.{◌≡◌, ℕ, ◌+◌, ◌-◌, ◌<◌, ◌≤◌, min, List, [], ◌∷◌, ◌++◌, length, get_or, take, drop, set, sym, refl, ap, ◌∙◌, subst, arith, length-append, length-drop, length-set, take-append-drop, length-take, drop-drop, drop-set-lt, take-add}
 use mathlib.Core.Option.{Option, none, some}
 use lib.Seq.{take-append_seam}
 use borrow.Rule.Slice.PartMut.{put_mid}

@@ -1,6 +1,6 @@
 -- What suppose, withdraw and reopen do.
-use Rattle.std.proofs.Common.{◌≡◌, ℕ, suc, ◌<◌, ◌≤◌, Bool, true, false, T, ltb, List, [], ◌∷◌, ◌++◌, map, length, Ok, Err, sym, refl, ap, ◌∙◌, subst, ap₂, arith, ltb→lt}
-use mathlib.Core.Option.{Option, none, some}
+use Rattle.std.proofs.Common.{◌≡◌, ℕ, ◌<◌, ◌≤◌, Bool, true, false, ltb, List, [], ◌∷◌, ◌++◌, map, length, Ok, Err, sym, refl, ap, ◌∙◌, subst, ap₂, arith, ltb→lt}
+use mathlib.Core.Option.{Option}
 use Rattle.std.proofs.lemmas.List.{append-nil, length-map, length_push, map_push, nil_from_length, same_from_push}
 use Rattle.logic.specs.Store.{stores}
 use Rattle.keys.specs.declared.register.Register.{Register}
@@ -11,19 +11,18 @@ use Rattle.book.specs.declared.book.Mark.{Mark}
 use Rattle.book.specs.declared.number.RecordNumber.{RecordNumber}
 use Rattle.law.specs.Limits.{most_suppositions}
 use Rattle.law.specs.Standing.{Standing, nothing, enter_all, stood}
-use Rattle.law.specs.Calls.{suppose, withdraw, reopen, done, refused, Tally, in_force, taken}
+use Rattle.law.specs.Calls.{suppose, withdraw, reopen, done, refused, Tally, taken}
 use Rattle.law.specs.Defined.{standing, unless, or_else, entering, refusal_of}
 use Rattle.law.specs.Kept.{Grows}
-use Rattle.law.proofs.Refusals.{passed, passes, lt_passes, none_or, passed_unless}
+use Rattle.law.proofs.Refusals.{lt_passes, none_or, passed_unless}
 use Rattle.law.proofs.Kept.{standing_kept, all_append, stood_push, stood_length}
 use Rattle.service.specs.Contents.{held, Holds, TakesIn, GivenBack}
 use Rattle.service.specs.Faults as faults
 use Rattle.service.specs.Marks.{marks_in}
-use Rattle.service.specs.Represents.{mark_of, unsupposed, SealedHolds, Represents, Does}
+use Rattle.service.specs.Represents.{mark_of, unsupposed, SealedHolds, Does}
 use Rattle.service.specs.declared.fault.Fault.{Fault}
 use Rattle.service.specs.declared.marks.Marks.{Marks}
 use Rattle.service.specs.declared.state.Sealed.{Sealed}
-use Rattle.service.specs.declared.state.State.{State}
 use Rattle.service.specs.declared.state.State.TheVariants.{Open, Shut}
 use Rattle.service.proofs.Failing.{fails}
 use Rattle.service.proofs.Holding.{First, cut_back, needed_standing}

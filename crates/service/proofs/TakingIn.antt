@@ -1,8 +1,8 @@
 -- What taking a rule in does, from what the reader, the register and the book do.
-use Rattle.std.proofs.Common.{◌≡◌, ℕ, ◌<◌, ◌≤◌, max, Bool, true, false, cond, leb, List, length, take, Ok, Err, sym, refl, ap, ◌∙◌, subst, arith}
+use Rattle.std.proofs.Common.{◌≡◌, ℕ, ◌<◌, ◌≤◌, Bool, true, false, cond, leb, List, length, take, Ok, Err, sym, refl, ap, ◌∙◌, subst, arith}
 use mathlib.Core.Option.{Option, none, some}
 use Rattle.logic.specs.Rules.{Rule, Book as Records}
-use Rattle.logic.specs.Store.{store, stores, number_of, book_of}
+use Rattle.logic.specs.Store.{store, number_of, book_of}
 use Rattle.keys.specs.Kept.{Front}
 use Rattle.keys.specs.Registers.{keys_in, slots_of, room}
 use Rattle.keys.specs.declared.numbers.RegisterFault.{RegisterFault}
@@ -13,10 +13,10 @@ use Rattle.reader.specs.Written.{Kind, WrittenRule, Reading, reads, unread, ment
 use Rattle.reader.specs.declared.fault.ReaderFault.{ReaderFault}
 use Rattle.reader.specs.declared.outline.Outline.{Outline}
 use Rattle.book.specs.Limits.{most_records}
-use Rattle.book.specs.Books.{records_of, names_of, Shows}
-use Rattle.book.specs.Entering.{all_appear, left_out, numbered, numbers_of, LaidOut}
+use Rattle.book.specs.Books.{records_of}
+use Rattle.book.specs.Entering.{all_appear, left_out, numbered, LaidOut}
 use Rattle.book.specs.KeyLists.{numbers_in, AllNumbered}
-use Rattle.book.specs.Entries.{RuleEntered, EntersRule, Refuses}
+use Rattle.book.specs.Entries.{EntersRule, Refuses}
 use Rattle.book.specs.declared.book.Book.{Book}
 use Rattle.book.specs.declared.fault.BookFault.{BookFault}
 use Rattle.book.specs.declared.key_numbers.KeyNumbers.{KeyNumbers}
@@ -26,7 +26,7 @@ use Rattle.law.specs.Standing.{Standing, Entry, entered, fit, enter_read}
 use Rattle.law.proofs.KeysKept.{all_front}
 use Rattle.law.proofs.RecordsKept.{front_length}
 use Rattle.law.proofs.Refusals.{le_passes}
-use Rattle.service.specs.Contents.{held, held_with, Holds, TakenIn, TakesIn}
+use Rattle.service.specs.Contents.{held, Holds, TakenIn, TakesIn}
 use Rattle.service.specs.Faults as faults
 use Rattle.service.specs.declared.fault.Fault.TheVariants as fault
 use Rattle.service.proofs.Failing.{over_fails}

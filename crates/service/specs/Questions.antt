@@ -1,5 +1,5 @@
 -- The answers of ask and check.
-use Rattle.std.specs.Prelude.{ℕ, Ok, Err, Result}
+use Rattle.std.specs.Prelude.{Ok, Err, Result}
 use Rattle.prover.specs.declared.outcome.Outcome.{Outcome}
 use Rattle.prover.specs.declared.outcome.Outcome.TheVariants.{Yes, No, Spent, Long}
 use Rattle.prover.specs.declared.verdict.Verdict.{Verdict}

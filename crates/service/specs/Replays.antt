@@ -1,6 +1,6 @@
 -- What replaying a list of calls notes, and which run that is.
 use Rattle.std.specs.Prelude.{◌≡◌, ℕ, min, List, [], ◌∷◌, ◌++◌, length, take, drop}
-use Rattle.std.proofs.Math.Option.{Option, none, some}
+use Rattle.std.proofs.Math.Option.{none, some}
 use Rattle.logic.specs.Charts.{Chart}
 use Rattle.reader.specs.Written.{Kind}
 use Rattle.law.specs.Calls as law

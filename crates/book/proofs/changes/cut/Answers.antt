@@ -1,6 +1,6 @@
-use Rattle.std.proofs.Common.{◌≡◌, ℕ, ◌%◌, ◌^◌, ◌<◌, ◌≤◌, length, set, sym, ap, ◌∙◌, inl, inr, arith, length-set}
+use Rattle.std.proofs.Common.{◌≡◌, ◌%◌, ◌^◌, length, set, sym, ap, ◌∙◌, inl, inr, arith, length-set}
 use native.Mathlib.Nat.{zero-mod}
-use Rattle.std.proofs.lemmas.Bool.{cases_lt, cases_eq}
+use Rattle.std.proofs.lemmas.Bool.{cases_lt}
 use Rattle.book.specs.Records.{set_at}
 use Rattle.book.proofs.SetsAt.{set_at_same, set_at_other, set_at_past}
 use Rattle.book.proofs.changes.cut.Goals as goal

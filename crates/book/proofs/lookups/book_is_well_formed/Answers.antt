@@ -1,4 +1,4 @@
-use Rattle.std.proofs.Common.{ℕ, ◌^◌, ◌<◌, ◌≤◌, sym, subst, arith}
+use Rattle.std.proofs.Common.{ℕ, ◌^◌, ◌<◌, sym, subst, arith}
 use Rattle.book.proofs.Adding.{length_records}
 use Rattle.book.proofs.Telling.{well_formed, records_few}
 use Rattle.book.proofs.lookups.book_is_well_formed.Goals as goal

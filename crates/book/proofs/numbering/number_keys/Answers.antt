@@ -1,7 +1,6 @@
-use Rattle.std.proofs.Common.{◌≡◌, ℕ, ◌+◌, ◌<◌, ◌≤◌, List, length, get_or, take, sym, refl, ap, ◌∙◌, subst, ap₂, arith, length-take}
-use Rattle.keys.specs.Numbering.{number}
+use Rattle.std.proofs.Common.{◌≡◌, ℕ, ◌+◌, List, length, get_or, take, sym, refl, ap, ◌∙◌, subst, ap₂, arith, length-take}
 use Rattle.keys.specs.Registers.{keys_in, slots_of, room, Entered, LeftOut}
-use Rattle.keys.proofs.Numbering.{front_self, front_trans, front_take, appear_front}
+use Rattle.keys.proofs.Numbering.{front_self, front_trans, front_take}
 use Rattle.keys.proofs.Slots.{few_in}
 use Rattle.reader.specs.Written.{Reading, KeyAt, mentions, places}
 use Rattle.book.specs.KeyLists.{numbers_in}

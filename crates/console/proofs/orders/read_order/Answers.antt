@@ -1,4 +1,4 @@
-use Rattle.std.proofs.Common.{◌≡◌, ◌<◌, length, sym, ◌∙◌, rules}
+use Rattle.std.proofs.Common.{◌<◌, length, sym, ◌∙◌, rules}
 use Rattle.console.specs.Orders.{add, suppose, ask, ask_again}
 use Rattle.console.proofs.orders.read_order.Goals as goal
 use Rattle.console.proofs.Marks.{by_mark}

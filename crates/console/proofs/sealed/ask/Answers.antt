@@ -1,4 +1,4 @@
-use Rattle.std.proofs.Common.{Ok, Err, ap, ◌∙◌, rules}
+use Rattle.std.proofs.Common.{Ok, ap, ◌∙◌}
 use Rattle.law.specs.Calls.{refused}
 use Rattle.service.specs.Faults.{fault_number, refusal}
 use Rattle.service.specs.Questions.{asked}

@@ -1,5 +1,4 @@
 use Rattle.std.proofs.Common.{[]}
-use Rattle.logic.specs.Check.{RejectsRight}
 use Rattle.book.specs.Books.{records_of}
 use Rattle.prover.specs.Settings.{allowed}
 use Rattle.prover.specs.declared.verdict.Verdict.TheVariants.{Accepted, Rejected}

@@ -1,5 +1,5 @@
 -- The rule is read, its keys get their numbers, and its records stand behind the others; or one of these steps refuses.
-use Rattle.std.proofs.Common.{take, sym, ap, ◌∙◌}
+use Rattle.std.proofs.Common.{take, ap, ◌∙◌}
 use Rattle.keys.specs.Registers.{keys_in}
 use Rattle.std.proofs.lemmas.Result.{err_from_is_err_and}
 use Rattle.service.proofs.TakingIn.{read_as, unread_in, left_out_in, stored_in, full_in}

@@ -1,7 +1,6 @@
 -- Call after call of the draft is replayed.
-use Rattle.std.proofs.Common.{◌≡◌, ℕ, ◌+◌, ◌-◌, ◌<◌, ◌≤◌, min, List, [], length, get_or, sym, ap, ◌∙◌, subst, arith}
+use Rattle.std.proofs.Common.{◌≡◌, ℕ, ◌<◌, ◌≤◌, [], length, sym, ◌∙◌, subst, arith}
 use Rattle.std.proofs.lemmas.List.{get_or_default}
-use Rattle.service.specs.Calls.{room_of}
 use Rattle.service.specs.Replaying.{Replaying}
 use Rattle.service.specs.declared.state.Draft.{Draft}
 use Rattle.service.specs.declared.state.State.TheVariants.{Open}

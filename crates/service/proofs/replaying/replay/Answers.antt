@@ -1,5 +1,5 @@
 -- From the empty draft to the next seal, from there to the next reopen, and so on to the end.
-use Rattle.std.proofs.Common.{◌≡◌, ℕ, ◌+◌, ◌-◌, ◌<◌, ◌≤◌, min, List, [], map, length, sym, refl, ap, ◌∙◌, subst, arith, length-set}
+use Rattle.std.proofs.Common.{◌≡◌, ◌<◌, min, map, length, refl, ◌∙◌, arith, length-set}
 use Rattle.law.specs.Calls as law
 use Rattle.law.proofs.Law.{law_holds}
 use Rattle.service.specs.declared.calls.Answer.TheVariants.{Done}

@@ -1,4 +1,4 @@
-use Rattle.std.proofs.Common.{◌≡◌, ◌^◌, ◌<◌, length, sym, ap, ◌∙◌, arith, length-set}
+use Rattle.std.proofs.Common.{◌^◌, ◌<◌, length, sym, ap, ◌∙◌, arith, length-set}
 use lib.Bits.{bit_or}
 use Rattle.logic.specs.Sets.{mask}
 use Rattle.book.specs.Records.{numbers}

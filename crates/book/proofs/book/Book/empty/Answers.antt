@@ -1,4 +1,4 @@
-use Rattle.std.proofs.Common.{◌≡◌, ℕ, [], replicate, refl, arith}
+use Rattle.std.proofs.Common.{[], replicate, refl, arith}
 use Rattle.book.specs.Records.{set_at}
 use Rattle.book.specs.declared.record_set.RecordSet.{RecordSet}
 use Rattle.book.proofs.Kept.{earlier_empty, Lists, lists_none}

@@ -1,5 +1,5 @@
-use Rattle.std.proofs.Common.{◌≡◌, ℕ, ◌+◌, ◌≤◌, length, sym, refl, ap, ◌∙◌, subst, arith}
-use Rattle.book.specs.Books.{records_of, names_of, in_force_of}
+use Rattle.std.proofs.Common.{ℕ, ◌≤◌, length, sym, refl, ap, subst, arith}
+use Rattle.book.specs.Books.{records_of}
 use Rattle.book.specs.Entering.{LaidOut}
 use Rattle.book.specs.Entries.{RuleEntered}
 use Rattle.book.specs.KeyLists.{numbers_in}

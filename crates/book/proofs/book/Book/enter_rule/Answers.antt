@@ -1,4 +1,4 @@
-use Rattle.std.proofs.Common.{◌≡◌, sym, refl, ap, ◌∙◌, subst, arith}
+use Rattle.std.proofs.Common.{sym, refl, subst, arith}
 use Rattle.book.specs.KeyLists.{numbers_in}
 use Rattle.book.specs.Entries.{waiting_in, EndsRule}
 use Rattle.book.proofs.RuleEnding.{below_names, ends_rule}

@@ -1,4 +1,4 @@
-use Rattle.std.proofs.Common.{◌≡◌, ℕ, List, length, get_or, sym, refl, ap, ◌∙◌, subst, arith, length-take}
+use Rattle.std.proofs.Common.{length, get_or, sym, ap, subst, arith, length-take}
 use Rattle.book.specs.Entries.{others, waiting_in, Longer, Stored}
 use Rattle.book.specs.KeyLists.{numbers_in}
 use Rattle.book.proofs.RulesEnding.{none_ended, one_ended, none_lacks, all_ended}

@@ -1,5 +1,4 @@
-use Rattle.std.proofs.Common.{◌≡◌, suc, ◌+◌, ◌<◌, max, length, get_or, sym, ap, ◌∙◌, arith, rules}
-use Rattle.book.specs.Books.{needed}
+use Rattle.std.proofs.Common.{◌≡◌, ◌+◌, ◌<◌, max, length, get_or, sym, ap, ◌∙◌, arith, rules}
 use Rattle.book.proofs.Cutting.{needed_next}
 use Rattle.book.proofs.book.Book.needed.Goals as goal
 

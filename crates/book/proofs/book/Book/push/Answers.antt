@@ -1,4 +1,4 @@
-use Rattle.std.proofs.Common.{◌≡◌, sym, refl, ◌∙◌, arith, length-set}
+use Rattle.std.proofs.Common.{sym, refl, ◌∙◌, arith, length-set}
 use Rattle.book.specs.declared.record.Record.{Record}
 use Rattle.book.proofs.Adding.{length_records, added, added_earlier, added_named, added_lists, standing_more}
 use Rattle.book.proofs.book.Book.push.Goals as goal

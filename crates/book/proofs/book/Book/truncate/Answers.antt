@@ -1,7 +1,7 @@
-use Rattle.std.proofs.Common.{◌≡◌, ℕ, ◌%◌, ◌^◌, ◌<◌, ◌≤◌, min, max, sym, refl, ap, ◌∙◌, subst, arith, rules}
+use Rattle.std.proofs.Common.{◌≡◌, ℕ, ◌^◌, ◌<◌, ◌≤◌, min, max, sym, ap, ◌∙◌, subst, arith, rules}
 use Rattle.std.proofs.lemmas.Nat.{pow_pos, mod_below}
-use Rattle.book.specs.Books.{records_of, needed}
-use Rattle.book.specs.Records.{set_at, stored}
+use Rattle.book.specs.Books.{needed}
+use Rattle.book.specs.Records.{set_at}
 use Rattle.book.proofs.Cutting.{cut_earlier, cut_few, cut_named, cut_lists, cut_to, under_to}
 use Rattle.book.proofs.book.Book.truncate.Goals as goal
 

@@ -1,4 +1,4 @@
-use Rattle.std.proofs.Common.{ℕ, ap, subst, arith}
+use Rattle.std.proofs.Common.{ℕ, subst, arith}
 use Rattle.logic.specs.Sets.{Has}
 use Rattle.book.specs.Records.{set_at}
 use Rattle.book.proofs.Adding.{length_records}

@@ -1,4 +1,4 @@
-use Rattle.std.proofs.Common.{◌≡◌, ℕ, ◌+◌, ◌-◌, ◌%◌, ◌^◌, ◌<◌, ◌↔◌, sym, ap, ◌∙◌, subst, arith}
+use Rattle.std.proofs.Common.{◌≡◌, ℕ, ◌+◌, ◌-◌, ◌%◌, ◌^◌, ◌<◌, ◌↔◌, sym, subst, arith}
 use lib.Bits.{bit_and, and_zero_l}
 use Rattle.logic.specs.Sets.{Has}
 use Rattle.book.proofs.Masks.{has_cleared, cleared_less, least_some}

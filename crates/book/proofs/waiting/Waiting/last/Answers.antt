@@ -1,4 +1,4 @@
-use Rattle.std.proofs.Common.{◌≡◌, ◌+◌, ◌-◌, ◌<◌, length, sym, ap, ◌∙◌, arith}
+use Rattle.std.proofs.Common.{◌≡◌, ◌+◌, ◌-◌, ap, ◌∙◌, arith}
 use Rattle.book.specs.Numbers.{listed}
 use Rattle.book.proofs.Listing.{listed_next}
 use Rattle.book.proofs.waiting.Waiting.last.Goals as goal

@@ -1,4 +1,4 @@
-use Rattle.std.proofs.Common.{◌≡◌, ◌<◌, length, ◌∙◌, arith, length-set}
+use Rattle.std.proofs.Common.{◌∙◌, arith, length-set}
 use Rattle.book.proofs.Listing.{listed_more}
 use Rattle.book.proofs.Waits.{length_listed}
 use Rattle.book.proofs.waiting.Waiting.put.Goals as goal

@@ -1,4 +1,4 @@
-use Rattle.std.proofs.Common.{◌≡◌, ℕ, ◌-◌, ◌≤◌, List, length, drop, sym, refl, ap, ◌∙◌, subst, arith}
+use Rattle.std.proofs.Common.{◌≡◌, ℕ, ◌-◌, ◌≤◌, length, drop, sym, ap, ◌∙◌, subst, arith}
 use Rattle.book.specs.Numbers.{listed}
 use Rattle.book.specs.Entries.{waiting_in, Taken}
 use Rattle.book.proofs.Waits.{length_listed, none_from, next_from, many_from, others_are, others_left}

@@ -1,4 +1,4 @@
-use Rattle.std.proofs.Common.{◌≡◌, ℕ, List, [], ◌∷◌, get_or, take, sym, subst, take_all}
+use Rattle.std.proofs.Common.{ℕ, List, [], ◌∷◌, get_or, take, sym, subst, take_all}
 use Rattle.std.proofs.lemmas.List.{take_more}
 use Rattle.console.specs.Texts.{Prints}
 use Rattle.console.proofs.printed.Printed.word.Goals as goal

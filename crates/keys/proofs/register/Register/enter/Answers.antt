@@ -1,4 +1,4 @@
-use Rattle.std.proofs.Common.{◌≡◌, sym, refl, ap, ◌∙◌, arith, length-set}
+use Rattle.std.proofs.Common.{refl, arith, length-set}
 use Rattle.keys.proofs.Slots.{enters_old, enters_new, enters_full}
 use Rattle.keys.proofs.register.Register.enter.Goals as goal
 

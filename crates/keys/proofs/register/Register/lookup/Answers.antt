@@ -1,4 +1,4 @@
-use Rattle.std.proofs.Common.{◌≡◌, ◌<◌, length, Some, None, arith, length-take}
+use Rattle.std.proofs.Common.{Some, None, arith, length-take}
 use Rattle.keys.specs.Registers.{keys_in, First}
 use Rattle.keys.proofs.Slots.{found_in, few_in}
 use Rattle.keys.proofs.register.Register.lookup.Goals as goal

@@ -1,5 +1,4 @@
 -- The rule is taken in and put in force, or it is refused.
-use Rattle.std.proofs.Common.{ap}
 use Rattle.std.proofs.lemmas.Result.{err_from_is_err_and}
 use Rattle.service.proofs.Doing.{does_add, does_add_refused}
 use Rattle.service.proofs.state.Draft.add.Goals as goal
