@@ -1,5 +1,5 @@
 -- Where the heads of a rule in codes stand.
-use Rattle.std.proofs.Common.{ℕ, ◌+◌, ◌<◌, ◌≤◌, List, arith}
+use Rattle.std.proofs.Common.{ℕ, ◌<◌, ◌≤◌, List, arith}
 use Rattle.std.specs.List.{AllByRecursion}
 use Rattle.reader.proofs.AllLists.{all_append}
 use Rattle.reader.specs.Codes.{IsRule, coded, Bodies, nothing, another}

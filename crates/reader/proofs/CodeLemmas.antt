@@ -1,11 +1,11 @@
 -- What the code reader's moves do to the rules that stand open.
-use Rattle.std.proofs.Common.{◌≡◌, ℕ, suc, ◌+◌, ◌-◌, ◌*◌, ◌<◌, ◌≤◌, ◌≢◌, List, [], ◌∷◌, ◌++◌, length, get_or, set, sym, refl, ap, ◌∙◌, subst, append_assoc, append-nil, add-one, arith, get_or-set_other, get_or-set_same}
+use Rattle.std.proofs.Common.{◌≡◌, ℕ, suc, ◌+◌, ◌-◌, ◌<◌, ◌≤◌, ◌≢◌, List, [], ◌∷◌, ◌++◌, length, get_or, set, sym, refl, ap, ◌∙◌, subst, append_assoc, append-nil, add-one, arith, get_or-set_other, get_or-set_same}
 use Rattle.reader.specs.declared.codes.Open.{Open}
 use Rattle.reader.specs.declared.outline.End.{End}
 use Rattle.reader.specs.declared.outline.Outline.{Outline}
 use Rattle.reader.specs.Limits.{deepest, most_bodies}
 use Rattle.reader.specs.Outlines.{mentions, ended, Outlines}
-use Rattle.reader.specs.Tree.{Rule, Rules, rule, none, ◌▸◌, count, places, places_all, size_all, ends, ends_all}
+use Rattle.reader.specs.Tree.{rule, none, ◌▸◌, count, places_all, size_all, ends_all}
 use Rattle.reader.specs.declared.fault.Reason.TheVariants.{Misplaced, Ninth}
 use Rattle.reader.specs.declared.fault.ReaderFault.{ReaderFault}
 use Rattle.reader.specs.declared.codes.State.{State}

@@ -1,5 +1,5 @@
 -- No rule that has ended has more bodies than a rule may have.
-use Rattle.std.proofs.Common.{◌≡◌, ℕ, ◌+◌, ◌<◌, ◌≤◌, ◌≢◌, List, length, get_or, set, sym, subst, arith, get_or-set_other, get_or-set_same, below_more}
+use Rattle.std.proofs.Common.{ℕ, ◌+◌, ◌<◌, ◌≤◌, ◌≢◌, List, length, get_or, set, sym, subst, arith, get_or-set_other, get_or-set_same, below_more}
 use Rattle.reader.specs.Limits.{most_bodies}
 use Rattle.reader.specs.declared.outline.End.{End}
 

@@ -1,10 +1,9 @@
 -- Each head of a text is a name.
-use Rattle.std.proofs.Common.{◌≡◌, ℕ, suc, ◌+◌, ◌<◌, ◌≤◌, List, [], ◌∷◌, ◌++◌, length, sym, refl, subst, arith}
+use Rattle.std.proofs.Common.{◌≡◌, ℕ, List, subst}
 use Rattle.std.specs.List.{AllByRecursion}
 use Rattle.reader.proofs.AllLists.{all_append}
 use Rattle.reader.specs.declared.lexer.Token.TheVariants.{Name}
 use Rattle.reader.specs.declared.lexer.Lexeme.{Lexeme}
-use Rattle.reader.specs.declared.outline.Outline.{Outline}
 use Rattle.reader.specs.Tree.{Rule, Rules, places, places_all}
 use Rattle.reader.specs.Lexemes.{Is, Lexed}
 use Rattle.reader.specs.Text as text

@@ -1,12 +1,10 @@
 -- A rule over keys has the places and the ends of the rule over places.
-use Rattle.std.proofs.Common.{◌≡◌, ℕ, suc, ◌+◌, List, [], ◌∷◌, ◌++◌, sym, refl, ap, ◌∙◌, subst, append_assoc, append-nil, arith}
-use Rattle.std.specs.List.{AllByRecursion}
-use Rattle.reader.specs.declared.outline.End.{End}
+use Rattle.std.proofs.Common.{◌≡◌, ℕ, ◌+◌, List, [], ◌∷◌, ◌++◌, sym, refl, ap, ◌∙◌, append_assoc, append-nil, arith}
 use Rattle.reader.specs.declared.outline.Outline.{Outline}
 use Rattle.reader.specs.Outlines.{Outlines}
 use Rattle.reader.specs.Tree.{Rule, Rules, rule, none, ◌▸◌}
 use Rattle.reader.specs.Tree as tree
-use Rattle.reader.specs.Written.{WrittenRule, WrittenBodies, written, no_body, body, Mention, mentions, mentions_all, places, count, size, size_all, ends, ends_all, IsOutline}
+use Rattle.reader.specs.Written.{WrittenBodies, no_body, body, Mention, mentions, mentions_all, places, count, size, size_all, ends, ends_all, IsOutline}
 use Rattle.reader.specs.Keyed.{keyed, keyed_all}
 
 places-++ : {K : Type 0} (ms ns : List (Mention K)) → places (ms ++ ns) ≡ places ms ++ places ns

@@ -1,5 +1,5 @@
 -- What a form's own laws say of what bytes are read as.
-use Rattle.std.proofs.Common.{◌≡◌, ℕ, List, [], ◌∷◌, ◌++◌, Ok, Err, Result, sym, refl, ap, ◌∙◌, subst, append-nil, MatchResult}
+use Rattle.std.proofs.Common.{◌≡◌, ℕ, List, [], ◌∷◌, ◌++◌, Ok, Err, Result, sym, refl, ap, ◌∙◌, subst, MatchResult}
 use Rattle.std.specs.List.{AllByRecursion}
 use Rattle.reader.proofs.AllLists.{all_append}
 use Rattle.reader.specs.declared.fault.Reason.{Reason}
@@ -9,7 +9,7 @@ use Rattle.reader.specs.Keyed.{keyed, keyed_all}
 use Rattle.reader.specs.Outlines.{Outlines}
 use Rattle.reader.specs.Readings.{ReadAs, accepted, refused}
 use Rattle.reader.specs.Tree.{Rule, Rules, rule, none, ◌▸◌, places, places_all}
-use Rattle.reader.specs.Written.{Reading, reads, unread, WrittenBodies, no_body, body, Mention, mentions, mentions_all, IsOutline, Outlined, KeyAt}
+use Rattle.reader.specs.Written.{Reading, reads, WrittenBodies, no_body, body, Mention, mentions, mentions_all, IsOutline, Outlined, KeyAt}
 use Rattle.reader.proofs.Keyed.{outline_keyed}
 
 all_split : (P : ℕ → Type 0) (xs ys : List ℕ) → AllByRecursion P (xs ++ ys) → AllByRecursion P xs × AllByRecursion P ys

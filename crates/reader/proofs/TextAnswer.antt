@@ -1,5 +1,5 @@
 -- A text is read as one thing only, and the outline and the keys are those of what it is read as.
-use Rattle.std.proofs.Common.{◌≡◌, ℕ, List, Result, refl, MatchResult}
+use Rattle.std.proofs.Common.{ℕ, List, Result, refl, MatchResult}
 use Rattle.reader.specs.declared.fault.ReaderFault.{ReaderFault}
 use Rattle.reader.specs.declared.outline.Outline.{Outline}
 use Rattle.reader.specs.Names.{name_at, Named}

@@ -1,5 +1,5 @@
 -- What stands before the place of a refusal could still become a rule: a name where one is due, and all brackets closed.
-use Rattle.std.proofs.Common.{◌≡◌, ℕ, zero, suc, ◌+◌, ◌-◌, ◌<◌, ◌≤◌, Bool, true, false, List, [], ◌∷◌, ◌++◌, length, get_or, take, replicate, sym, refl, ap, ◌∙◌, subst, arith, length-append, length-take-le, get_or-take}
+use Rattle.std.proofs.Common.{◌≡◌, ℕ, zero, suc, ◌+◌, ◌-◌, ◌<◌, ◌≤◌, Bool, true, false, List, ◌∷◌, ◌++◌, length, get_or, take, replicate, sym, refl, ap, ◌∙◌, subst, arith, length-append, length-take-le, get_or-take}
 use native.Mathlib.Decide.{ℕ_discrete}
 use lib.ListN.{length-replicate, get_or-replicate}
 use Rattle.std.proofs.lemmas.List.{get_or_append_left, get_or-append_right}
@@ -8,8 +8,8 @@ use Rattle.reader.specs.declared.lexer.Token.{Token}
 use Rattle.reader.specs.declared.lexer.Token.TheVariants.{Open, Close, Comma, If, Name, Long, Stray, Finish}
 use Rattle.reader.specs.declared.lexer.Lexeme.{Lexeme}
 use Rattle.reader.specs.Lexemes.{wordly, letter, Word, SpellsIf, Is, Lexed, Spaces, Lexes}
-use Rattle.reader.specs.Text.{Follows, IsRule, bare, ruled, Bodies, one, another, IsBody, name, bracket, BadRule, no_head, long_head, first, later, BadBody, no_body, long_body, deep, ninth, within, unclosed, Refused, oversize, bad, extra}
-use Rattle.reader.specs.TextEarliest.{Shaped, fact, conditional, ShapedBodies, single, further, ShapedBody, named, bracketed, Shape, Earliest}
+use Rattle.reader.specs.Text.{Follows, IsRule, bare, ruled, Bodies, one, another, IsBody, name, bracket, BadRule, no_head, long_head, first, later, BadBody, no_body, long_body, deep, ninth, within, unclosed, oversize, bad, extra}
+use Rattle.reader.specs.TextEarliest.{Shaped, fact, conditional, ShapedBodies, single, further, ShapedBody, named, bracketed, Earliest}
 use Rattle.reader.specs.Tree.{Rule, Rules}
 use Rattle.reader.proofs.TextLemmas.{start_within, takes}
 

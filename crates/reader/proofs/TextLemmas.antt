@@ -1,5 +1,5 @@
 -- What the text reader's moves do to what it has read.
-use Rattle.std.proofs.Common.{◌≡◌, ℕ, suc, ◌+◌, ◌-◌, ◌*◌, ◌<◌, ◌≤◌, Bool, true, false, cond, ◌⊎◌, List, [], ◌∷◌, ◌++◌, length, get_or, sym, refl, ap, ◌∙◌, subst, inl, inr, append_assoc, append-nil, add-zero, arith}
+use Rattle.std.proofs.Common.{◌≡◌, ℕ, suc, ◌+◌, ◌-◌, ◌*◌, ◌<◌, ◌≤◌, Bool, true, false, cond, List, [], ◌∷◌, ◌++◌, length, sym, refl, ap, ◌∙◌, subst, append_assoc, append-nil, add-zero, arith}
 use Rattle.reader.specs.declared.fault.Reason.{Reason}
 use Rattle.reader.specs.declared.fault.Reason.TheVariants.{Misplaced}
 use denote.Enum.Bare.{sameb, same_true, same_false}
@@ -10,13 +10,13 @@ use Rattle.reader.specs.declared.lexer.Lexeme.{Lexeme}
 use Rattle.reader.specs.declared.outline.End.{End}
 use Rattle.reader.specs.declared.outline.Outline.{Outline}
 use Rattle.reader.specs.declared.text.TextReader.{TextReader}
-use Rattle.reader.specs.Lexemes.{Is, Lexed, Lexes}
+use Rattle.reader.specs.Lexemes.{Is, Lexed}
 use Rattle.reader.specs.LexTotal.{end_within}
 use Rattle.reader.specs.Limits.{deepest, most_bodies, most_heads}
 use Rattle.reader.specs.Outlines.{mentions, ended}
 use Rattle.reader.specs.Text.{Follows, IsRule, bare, ruled, Bodies, one, another, IsBody, name, bracket, Stops, BadRule, first, later, BadBody, within, unclosed}
 use Rattle.reader.specs.TextSteps.{input, Adds, AddsAll, Sound, Fresh, ReadHead, ReadRule, ReadBody}
-use Rattle.reader.specs.Tree.{Rule, Rules, rule, none, ◌▸◌, count, size, size_all, places, places_all, ends, ends_all}
+use Rattle.reader.specs.Tree.{Rule, Rules, rule, none, ◌▸◌, count, size_all, places, places_all, ends, ends_all}
 
 -- a word or mark begins within the input
 pub start_within : (bs : List ℕ) (k : Token) (s e : ℕ) → Is bs k s e → s ≤ length bs

@@ -1,15 +1,15 @@
 -- A text has one reading or one refusal. An automaton that goes from word to word is a function of the words, and
 -- whatever the grammar says of the text the automaton finds.
-use Rattle.std.proofs.Common.{◌≡◌, ℕ, suc, ◌<◌, ◌≤◌, Bool, true, false, cond, eqb, ltb, ◌≢◌, ◌⊎◌, List, [], ◌∷◌, length, sym, refl, ap, ◌∙◌, subst, inl, inr, arith, le-ltb, lt-ltb, eq-eqb, ne_eqb}
+use Rattle.std.proofs.Common.{◌≡◌, ℕ, suc, ◌<◌, ◌≤◌, cond, eqb, ltb, ◌≢◌, List, [], ◌∷◌, length, sym, refl, ap, ◌∙◌, subst, inl, inr, arith, le-ltb, lt-ltb, eq-eqb, ne_eqb}
 use Rattle.reader.specs.declared.fault.Reason.{Reason}
-use Rattle.reader.specs.declared.fault.Reason.TheVariants.{Oversize, Misplaced, LongName, Deep, Ninth}
+use Rattle.reader.specs.declared.fault.Reason.TheVariants.{Misplaced, LongName, Deep, Ninth}
 use Rattle.reader.specs.declared.lexer.Token.{Token}
 use Rattle.reader.specs.declared.lexer.Token.TheVariants.{Open, Close, Comma, If, Name, Long, Stray, Finish}
 use Rattle.reader.specs.declared.lexer.Lexeme.{Lexeme}
 use Rattle.reader.specs.Tree.{Rule, Rules, rule, none, ◌▸◌, count}
 use Rattle.reader.specs.Lexemes.{Lexes}
 use Rattle.reader.specs.Limits.{rule_bytes, deepest, most_bodies}
-use Rattle.reader.specs.Text.{Follows, IsRule, bare, ruled, Bodies, one, another, IsBody, name, bracket, Stops, Names, Begins, BadRule, no_head, long_head, first, later, BadBody, no_body, long_body, deep, ninth, within, unclosed, Reads, Refused, oversize, bad, extra, OneReading, OneRefusal, NeverBoth}
+use Rattle.reader.specs.Text.{Follows, IsRule, bare, ruled, Bodies, one, another, IsBody, name, bracket, Stops, Names, Begins, BadRule, no_head, long_head, first, later, BadBody, no_body, long_body, deep, ninth, within, unclosed, Refused, oversize, bad, extra, OneReading, OneRefusal, NeverBoth}
 use Rattle.reader.proofs.LexUnique.{lexeme_one}
 
 -- a rule that stands open: its place, and its bodies so far

@@ -6,7 +6,7 @@ use Rattle.std.proofs.lemmas.Bool.{both_ways}
 use Rattle.reader.specs.declared.lexer.Token.{Token}
 use Rattle.reader.specs.declared.lexer.Token.TheVariants.{Open, Close, Comma, If, Name, Long, Stray, Finish}
 use Rattle.reader.specs.declared.lexer.Lexeme.{Lexeme}
-use Rattle.reader.specs.Lexemes.{letter, wordly, At, All, Word, SpellsIf, Unknown, Is, Spaces, Lexes, Plain}
+use Rattle.reader.specs.Lexemes.{letter, wordly, All, Word, Is, Lexes, Plain}
 use Rattle.reader.specs.Limits.{name_bytes}
 
 -- the bytes from i on that pass the test, as many as can be

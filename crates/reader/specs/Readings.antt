@@ -1,5 +1,5 @@
 -- What a form reads bytes as: a rule over the keys at the places of its heads, or a refusal.
-use Rattle.std.specs.Prelude.{◌≡◌, ℕ, List}
+use Rattle.std.specs.Prelude.{ℕ}
 use Rattle.reader.specs.declared.fault.Reason.{Reason}
 use Rattle.reader.specs.Faults.{number_of}
 use Rattle.reader.specs.Keyed.{keyed}

@@ -1,14 +1,13 @@
 -- What the text reader's functions do to its outline.
 use Rattle.std.specs.Prelude.{◌≡◌, ℕ, ◌+◌, ◌*◌, ◌≤◌, List, [], ◌∷◌, ◌++◌, length}
 use Rattle.reader.specs.declared.lexer.Token.TheVariants.{Name}
-use Rattle.reader.specs.declared.lexer.Lexeme.{Lexeme}
 use Rattle.reader.specs.declared.text.TextReader.{TextReader}
 use Rattle.reader.specs.declared.outline.Outline.{Outline}
-use Rattle.reader.specs.Lexemes.{Is, Lexes}
+use Rattle.reader.specs.Lexemes.{Is}
 use Rattle.reader.specs.Limits.{rule_bytes}
 use Rattle.reader.specs.Outlines.{mentions, ended}
 use Rattle.reader.specs.Text.{Follows, IsRule, IsBody, Stops}
-use Rattle.reader.specs.Tree.{Rule, Rules, count, size, size_all, places, places_all, ends, ends_all}
+use Rattle.reader.specs.Tree.{Rule, Rules, size, size_all, places, places_all, ends, ends_all}
 
 abbrev pub input : TextReader → List ℕ
 input r = r.bytes.now

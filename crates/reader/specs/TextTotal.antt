@@ -4,7 +4,6 @@ use Rattle.std.proofs.Common.{sym, subst, ⊎_elim, inl, inr, arith}
 use Rattle.std.proofs.Math.Decide.{ℕ_discrete, dec_le}
 use Rattle.reader.specs.declared.fault.Reason.{Reason}
 use Rattle.reader.specs.declared.fault.Reason.TheVariants.{Misplaced, LongName, Deep, Ninth}
-use Rattle.reader.specs.declared.lexer.Token.{Token}
 use Rattle.reader.specs.declared.lexer.Token.TheVariants.{Open, Close, Comma, If, Name, Long, Finish}
 use Rattle.reader.specs.declared.lexer.Lexeme.{Lexeme}
 use Rattle.reader.specs.declared.name.Name.{Name as Naming}

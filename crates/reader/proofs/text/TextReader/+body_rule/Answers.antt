@@ -1,12 +1,11 @@
-use Rattle.std.proofs.Common.{◌≡◌, ℕ, suc, ◌-◌, ◌≤◌, Bool, true, false, sym, refl, ap, ◌∙◌, subst, ⊎_elim, arith}
+use Rattle.std.proofs.Common.{◌≡◌, ℕ, suc, ◌-◌, Bool, true, sym, refl, ◌∙◌, subst, ⊎_elim, arith}
 use Rattle.std.proofs.lemmas.Result.{err_from_is_err_and, MatchResult-weaker}
-use Rattle.reader.specs.declared.fault.ReaderFault.{ReaderFault}
 use Rattle.reader.specs.declared.lexer.Token.TheVariants.{Comma}
 use Rattle.reader.specs.declared.text.TextReader.{TextReader}
 use Rattle.reader.specs.Limits.{deepest}
 use Rattle.reader.specs.Text.{BadBody, no_body, long_body}
 use Rattle.reader.specs.TextSteps.{input}
-use Rattle.reader.proofs.TextLemmas.{Looping, Advanced, EndAdded, advanced_fresh, loop_takes, loop_few, loop_room, loop_again, loop_bad, loop_over, loop_starts, told, tokens_say, body_bad, body_unclosed, body_closed, body_name}
+use Rattle.reader.proofs.TextLemmas.{Looping, Advanced, advanced_fresh, loop_takes, loop_few, loop_room, loop_again, loop_bad, loop_over, loop_starts, told, tokens_say, body_bad, body_unclosed, body_closed, body_name}
 use Rattle.reader.proofs.text.TextReader.+body_rule.Goals as goal
 
 pub body-returns-in_err-rule-in-Open : goal.body-returns-in_err-rule-in-Open
