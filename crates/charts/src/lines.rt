@@ -4,7 +4,7 @@ ghost use Rattle.charts.specs.Limits.{most_releases};
 ghost use Rattle.charts.specs.Makes.{lined};
 ghost use Rattle.charts.specs.Faults.{fault_number, fault_place};
 ghost use Rattle.charts.specs.Filling.{Fresh, LineFits};
-ghost use Rattle.std.proofs.Common.{rules, arith};
+ghost use Rattle.std.proofs.Common.{rules};
 
 use crate::chart::Chart;
 use crate::fault::ChartFault;
@@ -49,13 +49,13 @@ impl Line {
 impl Chart for Line {
     ghost value = { λ c. lined c.size c.first };
 
-    ghost ranged = { first_of (Prim.search rules, Prim.grind (arith, Self.row.coded.inj)) };
+    ghost ranged = { Prim.search rules };
 
-    ghost reflexive = { first_of (Prim.search rules, Prim.grind (arith, Self.row.coded.inj)) };
+    ghost reflexive = { Prim.search rules };
 
-    ghost transitive = { first_of (Prim.search rules, Prim.grind (arith, Self.row.coded.inj)) };
+    ghost transitive = { Prim.search rules };
 
-    ghost persistent = { first_of (Prim.search rules, Prim.grind (arith, Self.row.coded.inj)) };
+    ghost persistent = { Prim.search rules };
 
     fn size(&self) -> usize {
         self.size

@@ -6,7 +6,7 @@ ghost use Rattle.charts.specs.Laws.{ThreeLaws, ReflexiveAt, TransitiveAt, Persis
 ghost use Rattle.charts.specs.Makes.{charted};
 ghost use Rattle.charts.specs.Filling.{Fresh, listed, Lowest, MapFits, Refused};
 ghost use Rattle.charts.specs.ChartLaws.{laws_of};
-ghost use Rattle.std.proofs.Common.{rules, arith};
+ghost use Rattle.std.proofs.Common.{rules};
 
 use crate::bits::{is_within, low_bits, test_bit};
 use crate::chart::Chart;
@@ -26,7 +26,7 @@ pub struct Map {
 impl Chart for Map {
     ghost value = { λ c. charted c.size c.followers c.names };
 
-    ghost ranged = { first_of (Prim.search rules, Prim.grind (arith, Self.row.coded.inj)) };
+    ghost ranged = { Prim.search rules };
 
     ghost reflexive = { λ m. (laws_of (charted m.size m.followers m.names) m.laws).reflexive };
 
