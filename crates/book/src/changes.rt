@@ -111,7 +111,8 @@ impl Book {
 
 /// Leaves in each set the records below a count.
 fn cut(sets: &mut [RecordSet; NAMES], count: u8)
-    ensures { (((x : ℕ) → set_at sets.new x ≡ set_at sets.old x % 2 ^ count)) × (length sets.new ≡ length sets.old) }
+    ensures sets { (x : ℕ) → set_at sets.new x ≡ set_at sets.old x % 2 ^ count }
+    ensures length { length sets.new ≡ length sets.old }
 {
     for x in 0..NAMES {
         sets[x] = sets[x].below(count);

@@ -93,9 +93,9 @@ impl Book {
 
     /// Enters rules in the order in which they end, and gives the number of the last.
     fn enter_rules(&mut self, ends: &[End], numbers: &KeyNumbers) -> Option<RecordNumber>
-        requires ends_len_bound { length (records_of self.old) + length ends.now ≤ most_records }
-        requires names_bound { numbers.now.names ≤ names_of self.old }
-        requires by_index { (i : ℕ) → i < length ends.now → (slice_index_or ends.now i (record { mention = 0; bodies = 0 })).bodies ≤ most_bodies }
+        requires room { length (records_of self.old) + length ends.now ≤ most_records }
+        requires named { numbers.now.names ≤ names_of self.old }
+        requires few_bodies { (i : ℕ) → i < length ends.now → (slice_index_or ends.now i (record { mention = 0; bodies = 0 })).bodies ≤ most_bodies }
         ensures stored { Stored (numbers_in numbers.now) ends.now self.old self.new result }
         ensures longer { Longer self.old self.new }
     {
@@ -114,10 +114,10 @@ impl Book {
         numbers: &KeyNumbers,
         waiting: &mut Waiting,
     ) -> Option<RecordNumber>
-        requires self_len_bound { length (records_of self.old) < most_records }
-        requires names_bound { numbers.now.names ≤ names_of self.old }
-        requires all_below { AllBelow (length (records_of self.old)) (waiting_in waiting.old) }
-        requires bodies_le_most_bodies { end.bodies ≤ most_bodies }
+        requires room { length (records_of self.old) < most_records }
+        requires named { numbers.now.names ≤ names_of self.old }
+        requires earlier { AllBelow (length (records_of self.old)) (waiting_in waiting.old) }
+        requires few_bodies { end.bodies ≤ most_bodies }
         ensures { EndsRule (numbers_in numbers.now) (waiting_in waiting.old) end self.old (waiting_in waiting.new) self.new result }
     {
         let head = numbers.get(end.mention)?;

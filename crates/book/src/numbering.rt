@@ -28,7 +28,10 @@ impl KeyNumbers {
 
     /// Puts the number of the next key behind the others, where so many names are then in use.
     fn push(&mut self, number: KeyNumber, names: usize)
-        requires { (self.old.count < most_heads) × ((number.index < names) × ((self.old.names ≤ names) × (names ≤ most_names))) }
+        requires room { self.old.count < most_heads }
+        requires named { number.index < names }
+        requires grown { self.old.names ≤ names }
+        requires few_names { names ≤ most_names }
         ensures numbers { numbers_in self.new ≡ numbers_in self.old ++ number.index ∷ [] }
         ensures count { self.new.count ≡ self.old.count + 1 }
         ensures names { self.new.names ≡ names }

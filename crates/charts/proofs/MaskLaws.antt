@@ -2,6 +2,7 @@
 use Rattle.std.proofs.Common.{◌≡◌, ℕ, ◌+◌, ◌-◌, ◌^◌, ◌<◌, ◌≤◌, Bool, true, false, ◌||◌, eqb, List, [], ◌∷◌, ◌++◌, length, get_or, take, Decides, sym, refl, ap, ◌∙◌, subst, ⊎_elim, not-suc-le-zero, arith, below_more}
 use lib.Bits.{bit_and}
 use Rattle.std.specs.List.{AllByRecursion}
+use Rattle.std.proofs.lemmas.List.Elements.{All-push, All-from_recursion, recursion_from_All}
 use Rattle.std.proofs.lemmas.List.{take_more}
 use Rattle.std.proofs.lemmas.Bool.{eq-eqb, ne_eqb, both_ways, and_from, and_parts, lt-ltb, or_left, cases_lt}
 use Rattle.std.proofs.lemmas.Bool.Decides.{Decides-at}
@@ -74,15 +75,11 @@ all_set_more masks bs j met v h d =
     let both = bit_of_and met (get_or masks b 0) v in
     let pushed = take_more bs j 0 h in (
       (λ e. let parts = and_parts (bit met v) (bit (get_or masks b 0) v) (sym both ∙ e) in
-          subst (AllByRecursion P) (sym pushed) (all_push P (take j bs) b (d.0 parts.0) parts.1)),
+          subst (AllByRecursion P) (sym pushed) (recursion_from_All P _ (All-push P (take j bs) b (All-from_recursion P _ (d.0 parts.0)) parts.1))),
       λ all. let parts = split P (take j bs) b (subst (AllByRecursion P) pushed all) in
           both ∙ and_from (bit met v) (bit (get_or masks b 0) v) (d.1 parts.0) parts.1,
     )
   where
-    all_push : (P : ℕ → Type 0) (xs : List ℕ) (x : ℕ) → AllByRecursion P xs → P x → AllByRecursion P (xs ++ (x ∷ []))
-    all_push P [] x a here = (here, tt)
-    all_push P (y ∷ ys) x a here = (a.0, all_push P ys x a.1 here)
-
     split : (P : ℕ → Type 0) (xs : List ℕ) (x : ℕ) → AllByRecursion P (xs ++ (x ∷ [])) → AllByRecursion P xs × P x
     split P [] x a = (tt, a.0)
     split P (y ∷ ys) x a = let rest = split P ys x a.1 in ((a.0, rest.0), rest.1)

@@ -25,12 +25,12 @@ loop-x-preserved c =
 pub returns : goal.returns
 returns c =
     let sets = c.loop-x.sets in
-    let size : length sets ≡ 64 = omega arith in (
-      λ y. elim (cases_lt y c.loop-x.x) [
+    let size : length sets ≡ 64 = omega arith in record {
+      sets = λ y. elim (cases_lt y c.loop-x.x) [
         | inl l ↦ c.loop-x.invariant.1 y l
         | inr g ↦
             let past : set_at c.args.sets.now y ≡ 0 = set_at_past c.args.sets.now y (omega arith) in
             c.loop-x.invariant.2 y g ∙ past ∙ sym (zero-mod (2 ^ c.args.count)) ∙ ap (λ n. n % 2 ^ c.args.count) (sym past)
-      ],
-      omega arith,
-    )
+      ];
+      length = omega arith;
+    }

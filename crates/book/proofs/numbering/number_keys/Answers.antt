@@ -30,10 +30,12 @@ push-requires g c =
     let e = c.in-Ok.ensures.result in
     let below = entered_below g.K.Key.same g.met.K.Key.reflexive e in
     let held = c.used.ensures in
-    let grows = entered_front g.K.Key.same e in (
-      omega (arith, c.loop-place.invariant.2, c.loop-place-test.true, ap length c.places-places.ensures, length-take o.mentioned o.places),
-      (omega (arith, below, held), (omega (arith, grows.1, held, c.loop-place.invariant.3), omega (arith, e.in_room, held))),
-    )
+    let grows = entered_front g.K.Key.same e in record {
+      room = omega (arith, c.loop-place.invariant.2, c.loop-place-test.true, ap length c.places-places.ensures, length-take o.mentioned o.places);
+      named = omega (arith, below, held);
+      grown = omega (arith, grows.1, held, c.loop-place.invariant.3);
+      few_names = omega (arith, e.in_room, held);
+    }
 
 pub returns-in-Err : goal.returns-in-Err
 returns-in-Err g c =

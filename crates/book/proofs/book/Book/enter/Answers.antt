@@ -19,9 +19,9 @@ pub enter_rules-requires : goal.enter_rules-requires
 enter_rules-requires c =
     let b = c.args.self.now in
     let ks = c.args.numbers.now in record {
-      ends_len_bound = omega (arith, ap length c.admit.ensures.records, length_records b, c.if-self-ends-gt-RECORDS.false);
-      names_bound = omega (arith, c.admit.ensures.names, c.names.ensures, ks.few_names);
-      by_index = outline_few c.args.outline.now _ c.ends-ends.ensures;
+      room = omega (arith, ap length c.admit.ensures.records, length_records b, c.if-self-ends-gt-RECORDS.false);
+      named = omega (arith, c.admit.ensures.names, c.names.ensures, ks.few_names);
+      few_bodies = outline_few c.args.outline.now _ c.ends-ends.ensures;
     }
 
 pub returns-in-Some : goal.returns-in-Some

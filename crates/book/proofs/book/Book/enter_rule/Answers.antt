@@ -14,7 +14,7 @@ pub returns-in_err-bodies : goal.returns-in_err-bodies
 returns-in_err-bodies c =
     let ns = numbers_in c.args.numbers.now in
     subst (EndsRule ns (waiting_in c.args.waiting.now) c.args.end c.args.self.now _ _) (sym c.from_residual-in_err-bodies.ensures)
-    (λ _ enough. c.in_err-bodies.ensures enough c.requires.bodies_le_most_bodies, refl)
+    (λ _ enough. c.in_err-bodies.ensures enough c.requires.few_bodies, refl)
 
 pub returns : goal.returns
 returns c =
@@ -22,5 +22,5 @@ returns c =
     let got = c.in_ok-head.ensures in
     let taken = c.in_ok-bodies.ensures in
     ends_rule (numbers_in ks) (waiting_in c.args.waiting.now) _ c.args.end c.args.self.now _ c.in_ok-head.head.index _
-    got.0 got.1 taken.0 taken.1 taken.2 c.requires.self_len_bound
-    (omega (arith, got.1, below_names ks c.args.end.mention got.0, c.requires.names_bound)) c.requires.all_below c.push.result c.push.ensures
+    got.0 got.1 taken.0 taken.1 taken.2 c.requires.room
+    (omega (arith, got.1, below_names ks c.args.end.mention got.0, c.requires.named)) c.requires.earlier c.push.result c.push.ensures

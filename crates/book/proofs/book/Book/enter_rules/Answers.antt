@@ -7,10 +7,10 @@ use Rattle.book.proofs.book.Book.enter_rules.Goals as goal
 pub enter_rule-requires : goal.enter_rule-requires
 enter_rule-requires c =
     let inv = c.loop-end.invariant in record {
-      self_len_bound = omega (arith, c.requires.ends_len_bound, inv.many, c.loop-end-test.true);
-      names_bound = omega (arith, c.requires.names_bound, inv.longer.names);
-      all_below = inv.below;
-      bodies_le_most_bodies = c.requires.by_index c.loop-end.end-index c.loop-end-test.true;
+      room = omega (arith, c.requires.room, inv.many, c.loop-end-test.true);
+      named = omega (arith, c.requires.named, inv.longer.names);
+      earlier = inv.below;
+      few_bodies = c.requires.few_bodies c.loop-end.end-index c.loop-end-test.true;
     }
 
 pub loop-end-init : goal.loop-end-init
@@ -21,7 +21,7 @@ put-requires c =
     let inv = c.loop-end.invariant in
     let e = c.in_ok-number.ensures in
     let ws = waiting_in c.loop-end.waiting in
-    omega (arith, ap length e.waiting_are, length-take (others ws (get_or c.args.ends.now c.loop-end.end-index (record { mention = 0; bodies = 0 })).bodies) ws, inv.few, c.requires.ends_len_bound, c.loop-end-test.true)
+    omega (arith, ap length e.waiting_are, length-take (others ws (get_or c.args.ends.now c.loop-end.end-index (record { mention = 0; bodies = 0 })).bodies) ws, inv.few, c.requires.room, c.loop-end-test.true)
 
 pub loop-end-preserved : goal.loop-end-preserved
 loop-end-preserved c =
