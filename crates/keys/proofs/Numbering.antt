@@ -1,7 +1,12 @@
 -- Keys get numbers in the order in which they appear, and keep them.
-use Rattle.std.proofs.Common.{◌≡◌, ℕ, suc, ◌<◌, ◌≤◌, Bool, true, false, cond, List, [], ◌∷◌, ◌++◌, length, take, sym, refl, ap, ◌∙◌, subst, not-suc-le-zero, arith}
+use Rattle.std.proofs.Common.{◌≡◌, suc, ◌+◌, ◌<◌, ◌≤◌, ◌≢◌, Bool, true, false, cond, not, List, [], ◌∷◌, ◌++◌, length, take, sym, refl, ap, ◌∙◌, subst, ⊎_elim, eq-eqb, ne_eqb, not-suc-le-zero, arith}
 use lib.Seq.{take-append_seam}
-use Rattle.std.proofs.lemmas.List.{append-nil, append_assoc}
+use Rattle.std.specs.List.{position_or_len, prefix_len}
+use Rattle.std.proofs.lemmas.Bool.{cases_lt}
+use Rattle.std.proofs.lemmas.List.{append-nil, append_assoc, length_push}
+use Rattle.std.proofs.lemmas.List.Folds.{prefix_len-append, position_or_len_push}
+use Rattle.std.proofs.lemmas.List.Recursion.{is_position_or_len}
+use Rattle.std.proofs.lemmas.List.Sums.{prefix_len-le-length}
 use Rattle.keys.specs.Numbering.{number, appear}
 use Rattle.keys.specs.Kept.{Front, NumbersKept}
 
@@ -22,33 +27,23 @@ pub front_take : {A : Type 0} {xs ys : List A} → Front xs ys → take (length 
 front_take {A} {xs} {ys} f = ap (take (length xs)) f.split ∙ take-append_seam xs f.others
 
 module _ {K : Type 0} (same : K → K → Bool) where
-  pub appear_front : (ks : List K) (k : K) → Front ks (appear same ks k)
-  appear_front [] k = record { others = k ∷ []; split = refl }
-  appear_front (x ∷ xs) k = go (same x k) (appear_front xs k)
-    where
-      go : (b : Bool) → Front xs (appear same xs k) → Front (x ∷ xs) (cond b (x ∷ xs) (x ∷ appear same xs k))
-      go true f = front_self (x ∷ xs)
-      go false f = front_cons x f
-
-  -- a key that has a number keeps it, whatever comes behind
-  pub number_kept : (ks others : List K) (k : K) → number same ks k < length ks → number same (ks ++ others) k ≡ number same ks k
-  number_kept [] others k l = absurd (not-suc-le-zero l)
-  number_kept (x ∷ xs) others k l = go (same x k) l (number_kept xs others k)
-    where
-      go : (b : Bool) → cond b 0 (suc (number same xs k)) < suc (length xs)
-          → (number same xs k < length xs → number same (xs ++ others) k ≡ number same xs k)
-          → cond b 0 (suc (number same (xs ++ others) k)) ≡ cond b 0 (suc (number same xs k))
-      go true m ih = refl
-      go false m ih = ap suc (ih (omega arith))
+  -- the number of a key is the place of the first key that is the same
+  pub number_position : (ks : List K) (k : K) → number same ks k ≡ position_or_len (λ x. same x k) ks
+  number_position ks k = is_position_or_len (λ xs. number same xs k) (λ x. same x k) refl (λ x xs. ap (cond (same x k) 0) (omega arith)) ks
 
   -- a key has a number, or there is none that is the same
   pub number_most : (ks : List K) (k : K) → number same ks k ≤ length ks
-  number_most [] k = omega arith
-  number_most (x ∷ xs) k = go (same x k) (number_most xs k)
-    where
-      go : (b : Bool) → number same xs k ≤ length xs → cond b 0 (suc (number same xs k)) ≤ suc (length xs)
-      go true h = omega arith
-      go false h = omega arith
+  number_most ks k = omega (arith, number_position ks k, prefix_len-le-length (λ x. not (same x k)) ks)
+
+  -- a key that has a number keeps it, whatever comes behind
+  pub number_kept : (ks others : List K) (k : K) → number same ks k < length ks → number same (ks ++ others) k ≡ number same ks k
+  number_kept ks others k l =
+      let other : K → Bool = λ x. not (same x k) in
+      let ne : prefix_len other ks ≢ length ks = omega (arith, l, number_position ks k) in
+      number_position (ks ++ others) k
+      ∙ prefix_len-append other ks others
+      ∙ ap (λ b. cond b (length ks + prefix_len other others) (prefix_len other ks)) (ne_eqb _ _ ne)
+      ∙ sym (number_position ks k)
 
   -- a key that has a number does not come behind the others
   pub appear_old : (ks : List K) (k : K) → number same ks k < length ks → appear same ks k ≡ ks
@@ -71,24 +66,27 @@ module _ {K : Type 0} (same : K → K → Bool) where
       go true m ih = absurd (omega (arith, m))
       go false m ih = ap (λ (l' : List K). x ∷ l') (ih (omega arith))
 
-  cond_lt : (b : Bool) (n m : ℕ) → n < m → cond b 0 (suc n) < suc m
-  cond_lt true n m l = omega arith
-  cond_lt false n m l = omega arith
+  pub appear_front : (ks : List K) (k : K) → Front ks (appear same ks k)
+  appear_front ks k =
+      ⊎_elim (λ (l : number same ks k < length ks). subst (Front ks) (sym (appear_old ks k l)) (front_self ks))
+      (λ (none : length ks ≤ number same ks k). record { others = k ∷ []; split = appear_new ks k (omega (arith, none, number_most ks k)) })
+      (cases_lt (number same ks k) (length ks))
+
+  -- a key that comes behind the others has their count for its number
+  number_last : (ks : List K) (k : K) → same k k ≡ true → number same ks k ≡ length ks → number same (ks ++ k ∷ []) k ≡ length ks
+  number_last ks k r e =
+      let first : position_or_len (λ x. same x k) ks ≡ length ks = sym (number_position ks k) ∙ e in
+      number_position (ks ++ k ∷ []) k ∙ position_or_len_push (λ x. same x k) ks k ∙ rw (eq-eqb _ _ first, r) (omega arith)
 
   pub has_number : (ks : List K) (k : K) → same k k ≡ true
       → (number same (appear same ks k) k < length (appear same ks k)) × (number same (appear same ks k) k ≡ number same ks k)
-  has_number [] k r = (subst (λ (b : Bool). cond b 0 1 < 1) (sym r) (omega arith), ap (λ (b : Bool). cond b 0 1) r)
-  has_number (x ∷ xs) k r = go (same x k) refl (has_number xs k r)
-    where
-      go : (b : Bool) → same x k ≡ b
-          → (number same (appear same xs k) k < length (appear same xs k)) × (number same (appear same xs k) k ≡ number same xs k)
-          → (number same (cond b (x ∷ xs) (x ∷ appear same xs k)) k < length (cond b (x ∷ xs) (x ∷ appear same xs k)))
-          × (number same (cond b (x ∷ xs) (x ∷ appear same xs k)) k ≡ number same (x ∷ xs) k)
-      go true e ih = (subst (λ (c : Bool). cond c 0 (suc (number same xs k)) < suc (length xs)) (sym e) (omega arith), refl)
-      go false e ih = (
-        cond_lt (same x k) (number same (appear same xs k) k) (length (appear same xs k)) ih.0,
-        ap (λ (n : ℕ). cond (same x k) 0 (suc n)) ih.1,
-      )
+  has_number ks k r =
+      ⊎_elim (λ (l : number same ks k < length ks). subst (λ (a : List K). (number same a k < length a) × (number same a k ≡ number same ks k)) (sym (appear_old ks k l)) (l, refl))
+      (λ (none : length ks ≤ number same ks k).
+      let e : number same ks k ≡ length ks = omega (arith, none, number_most ks k) in
+      let last = number_last ks k r e in
+      subst (λ (a : List K). (number same a k < length a) × (number same a k ≡ number same ks k)) (sym (appear_new ks k e)) (omega (arith, last, length_push ks k), last ∙ sym e))
+      (cases_lt (number same ks k) (length ks))
 
 pub numbers_kept : (K : Type 0) → NumbersKept K
 numbers_kept K same = record { appended = appear_front same; kept = number_kept same; has = has_number same }

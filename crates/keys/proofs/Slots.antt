@@ -1,52 +1,27 @@
 -- The keys that have a number as the front of the slots.
-use Rattle.std.proofs.Common.{◌≡◌, ℕ, suc, ◌+◌, ◌-◌, ◌<◌, ◌≤◌, min, Bool, true, false, cond, List, [], ◌∷◌, ◌++◌, length, get_or, take, drop, set, Option, sym, refl, ap, ◌∙◌, subst, ⊎_elim, arith, length-take, take_all}
-use native.Mathlib.Nat.{min-eq_left, min-eq_right, sub-zero}
-use Rattle.std.proofs.lemmas.List.{drop_more, drop_all, take_more_set, length_push}
-use Rattle.std.proofs.lemmas.Bool.{cases_lt}
+use Rattle.std.proofs.Common.{◌≡◌, ℕ, ◌+◌, ◌<◌, ◌≤◌, min, Bool, true, false, cond, List, [], ◌∷◌, ◌++◌, length, take, set, Option, Some, None, nat_lt, position, sym, refl, ap, ◌∙◌, subst, arith, length-take}
+use Rattle.std.proofs.lemmas.List.{take_more_set, length_push}
+use Rattle.std.proofs.lemmas.Bool.{ltb-true, ltb-false}
+use Rattle.std.specs.List.{position_or_len}
 use Rattle.keys.specs.Numbering.{number}
 use Rattle.keys.specs.Registers.{room, First, Entered, LeftOut}
 use Rattle.keys.specs.declared.numbers.KeyNumber.{KeyNumber}
 use Rattle.keys.specs.declared.numbers.RegisterFault.{RegisterFault}
-use Rattle.keys.proofs.Numbering.{appear_old, appear_new}
+use Rattle.keys.proofs.Numbering.{appear_old, appear_new, number_most, number_position}
 
 module _ {K : Type 0} where
-  pub take_min : (n : ℕ) (xs : List K) → take (min n (length xs)) xs ≡ take n xs
-  take_min n xs =
-      ⊎_elim (λ (h : n < length xs). ap (λ m. take m xs) (min-eq_left (omega arith)))
-      (λ (h : length xs ≤ n). ap (λ m. take m xs) (min-eq_right h) ∙ take_all (length xs) xs (omega arith) ∙ sym (take_all n xs h))
-      (cases_lt n (length xs))
-
-  -- what is found in the first n slots, where so many keys have a number
-  pub found_in : (same : K → K → Bool) (slots : List K) (used n : ℕ) (k : K) (o : Option ℕ) → n ≡ length (take used slots)
-      → First same (take (n - 0) slots) k o → First same (take used slots) k o
-  found_in same slots used n k o is =
-      let front : take (n - 0) slots ≡ take used slots = ap (λ m. take m slots) (sub-zero n ∙ is ∙ length-take used slots) ∙ take_min used slots in
-      subst (λ (l : List K). First same l k o) front
-
   -- the number of slots with a numbered key is that of a key number
   pub few_in : (slots : List K) (used : ℕ) → used ≤ 64 → length (take used slots) ≤ 64
   few_in slots used few = omega (arith, length-take used slots)
 
-module _ {K : Type 0} (same : K → K → Bool) (ks : List K) (k : K) (i : ℕ) where
-  number_next : (x : K) → i < length ks → x ≡ get_or ks i x
-      → number same (drop i ks) k ≡ cond (same x k) 0 (suc (number same (drop (i + 1) ks) k))
-  number_next x within read =
-      ap (λ l. number same l k) (drop_more ks i x within)
-      ∙ ap (λ y. number same (y ∷ drop (i + 1) ks) k) (sym read)
+module _ {K : Type 0} (same : K → K → Bool) (ks : List K) (k : K) where
+  first_found : (n : ℕ) (found : Bool) → number same ks k ≡ n → nat_lt n (length ks) ≡ found → First same ks k (cond found (Some n) None)
+  first_found n true is within = (sym is, ltb-true _ _ within)
+  first_found n false is past = omega (arith, is, number_most same ks k, ltb-false _ _ past)
 
-  -- a key that is the same stands here
-  pub number_hit : (x : K) → i < length ks → x ≡ get_or ks i x → same x k ≡ true → number same (drop i ks) k ≡ 0
-  number_hit x within read hit =
-      number_next x within read ∙ ap (λ b. cond b 0 (suc (number same (drop (i + 1) ks) k))) hit
-
-  -- another key stands here
-  pub number_miss : (x : K) → i < length ks → x ≡ get_or ks i x → same x k ≡ false
-      → number same (drop i ks) k ≡ suc (number same (drop (i + 1) ks) k)
-  number_miss x within read miss =
-      number_next x within read ∙ ap (λ b. cond b 0 (suc (number same (drop (i + 1) ks) k))) miss
-
-  pub number_end : length ks ≤ i → number same (drop i ks) k ≡ 0
-  number_end past = ap (λ l. number same l k) (drop_all i ks past)
+  -- the first key that is the same stands at its number
+  pub first_at_position : (r : Option ℕ) → r ≡ position (λ x. same x k) ks → First same ks k r
+  first_at_position r is = subst (First same ks k) (sym is) (first_found (position_or_len (λ x. same x k) ks) _ (number_position same ks k) refl)
 
 module _ {K : Type 0} (same : K → K → Bool) (slots : List K) (used : ℕ) (k : K) (few : used ≤ 64) where
   abbrev ks : List K

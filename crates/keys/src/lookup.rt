@@ -1,5 +1,4 @@
 //! Finding a key in a slice of keys.
-ghost use Rattle.std.specs.Prelude.{◌≡◌, ◌<◌, length};
 ghost use Rattle.keys.specs.Registers.{First};
 
 use crate::Key;
@@ -8,10 +7,5 @@ use crate::Key;
 pub fn first_same<K: Key>(keys: &[K], key: &K) -> Option<usize>
     ensures { First K.same keys.now key.now result }
 {
-    for (i, k) in keys.iter().enumerate() {
-        if k.same_as(key) {
-            return Some(i);
-        }
-    }
-    None
+    keys.iter().position(|k| k.same_as(key))
 }

@@ -12,6 +12,16 @@ pub struct KeyNumber {
     ghost below: { index < most_names },
 }
 
+// Written by hand, since a struct with a ghost field derives no `Default`.
+impl Default for KeyNumber {
+    /// The number of the first key.
+    fn default() -> KeyNumber
+        ensures { result.index ≡ 0 }
+    {
+        KeyNumber { index: 0 }
+    }
+}
+
 /// How many keys have a number.
 #[derive(Clone, Copy)]
 pub struct KeyCount {
@@ -32,6 +42,7 @@ pub struct RegisterFault {
 
 impl RegisterFault {
     /// The number of the refusal.
+    // There is one refusal: its number needs no enum.
     pub const NUMBER: u8 = 11;
 
     /// The number of the refusal.

@@ -8,6 +8,7 @@ use crate::lookup::first_same;
 use crate::numbers::{KeyCount, KeyNumber, NAMES, RegisterFault};
 
 /// The keys that have a number lie in the first `used` of the caller's slots. The slots behind them are free.
+// A slice with a count beside it: the caller lends the slots, and the crate allocates nothing.
 #[derive(Drop)]
 pub struct Register<'a, K> {
     slots: &'a mut [K],
@@ -26,22 +27,27 @@ impl<'a, K: Key + Copy> Register<'a, K> {
         }
     }
 
+    /// The keys that have a number, in the order of their numbers.
+    fn keys(&self) -> &[K]
+        ensures { result.now ≡ keys_in self.now }
+    {
+        // The lesser of count and slots, so that no ghost field has to tie the count to the lent slots.
+        &self.slots[..self.used.count.min(self.slots.len())]
+    }
+
     /// How many keys have a number.
     pub fn used(&self) -> usize
         ensures { result ≡ length (keys_in self.now) }
     {
-        self.used.count.min(self.slots.len())
+        self.keys().len()
     }
 
     /// The number of a key, or nothing where it is absent.
     pub fn lookup(&self, key: &K) -> Option<KeyNumber>
         ensures { Looked K.same (keys_in self.now) key.now result }
     {
-        let used = self.used();
-        match first_same(&self.slots[0..used], key) {
-            Some(i) => Some(KeyNumber { index: i as u8 }),
-            None => None,
-        }
+        let i = first_same(self.keys(), key)?;
+        Some(KeyNumber { index: i as u8 })
     }
 
     /// The number of a key: its own if it has one, else the next. A refusal changes nothing.
@@ -55,6 +61,7 @@ impl<'a, K: Key + Copy> Register<'a, K> {
         let used = self.used.count;
         let room = self.slots.len().min(NAMES);
         if used < room {
+            // By index: of a slot that is written through `get_mut` nothing can be proved.
             self.slots[used] = key;
             self.used = KeyCount { count: used + 1 };
             Ok(KeyNumber { index: used as u8 })
@@ -75,8 +82,6 @@ impl<'a, K: Key + Copy> Register<'a, K> {
 }
 
 /// Keys get numbers in the order in which they appear, and keep them.
-pub fn numbers_are_kept<K>() -> u8
+pub fn numbers_are_kept<K>()
     ensures { NumbersKept K }
-{
-    0
-}
+{}

@@ -24,12 +24,9 @@ impl Key for Digit {
 
 /// Enters the first `keys` numbers as keys, and gives the place that was refused.
 fn refused(register: &mut Register<Digit>, keys: u8) -> Option<usize> {
-    for i in 0..keys {
-        if let Err(fault) = register.enter(Digit(i), i as usize) {
-            return Some(fault.place);
-        }
-    }
-    None
+    (0..keys)
+        .find_map(|i| register.enter(Digit(i), i as usize).err())
+        .map(|fault| fault.place)
 }
 
 #[test]

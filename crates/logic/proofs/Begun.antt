@@ -5,10 +5,7 @@ use Rattle.logic.specs.Sets.{Has, Within}
 use Rattle.logic.specs.Search.{Query, On, here, there}
 use Rattle.logic.specs.Begun.{Tracks, TracksKept}
 use Rattle.logic.proofs.Sets.{has_left, has_right, has_split, has_self, has_only, has_zero, or_grows, within_self, within_join, within_trans}
-use Rattle.logic.proofs.Ways.{on_cases}
-
-nothing_on : {q : Query} → On q [] → ⊥
-nothing_on o = elim o [ ]
+use Rattle.logic.proofs.Ways.{nothing_on, on_cases}
 
 tracks_start : (S : ℕ) → Tracks [] S zero
 tracks_start S = record { grown = λ q o. absurd (nothing_on o); begun = λ x. (λ o. absurd (nothing_on o), λ h. absurd (has_zero x h)) }

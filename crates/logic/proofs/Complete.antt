@@ -1,5 +1,5 @@
 -- Where a goal has no tree, a chart refutes it.
-use Rattle.std.proofs.Common.{◌≡◌, ℕ, zero, suc, ◌+◌, ◌*◌, ◌/◌, ◌%◌, ◌^◌, ◌<◌, max, Bool, false, ◌&&◌, T, ◌⊎◌, [], ◌∷◌, length, get_or, refl, inl, inr, ⊎_elim, not-suc-le-zero, arith}
+use Rattle.std.proofs.Common.{◌≡◌, ℕ, zero, suc, ◌+◌, ◌*◌, ◌/◌, ◌%◌, ◌^◌, ◌<◌, max, Bool, false, ◌&&◌, T, ◌⊎◌, [], ◌∷◌, length, get_or, refl, inl, inr, ⊎_elim, arith}
 use native.Mathlib.Decide.{ℕ_discrete, dec_lt}
 use lib.Bits.{bit_or}
 use Rattle.std.proofs.lemmas.Nat.{mul-add-lt, div-mul-add, mod-mul-add}
@@ -8,9 +8,9 @@ use Rattle.logic.specs.Rules.{Book, blank, head_of, bodies_of, WellFormed, suppo
 use Rattle.logic.specs.Charts.{Chart, Lawful, Follows, Carries, Holds}
 use Rattle.logic.specs.Theorems.{GoalTree, Refuted, Decided, Complete}
 use Rattle.logic.proofs.Sets.{Member, has_right, has_within, member_has, member_below, or_grows, within_self, within_join, within_trans}
-use Rattle.logic.proofs.Rules.{bodies_below, bodies_recorded, supposing_lt}
+use Rattle.logic.proofs.Rules.{by_bodies, bodies_recorded, supposing_lt}
 use Rattle.logic.proofs.Sound.{all_hold, each_holds, holds_as, holds_by}
-use Rattle.logic.proofs.Tests.{is_yes, from_yes, to_yes, dec_T, both, and_left, and_right, all_from, at_rest}
+use Rattle.logic.proofs.Tests.{yes_both, both_yes, is_yes, dec_T, all_from, at_rest}
 use Rattle.logic.proofs.Heights.{body_passes, step_rule, succeeds, succeeds_more, tree_of}
 
 -- ---- a bound on the names of a book and a goal
@@ -60,21 +60,17 @@ module _ (book : Book) (wf : WellFormed book) (g h : ℕ) (is_enough : Enough bo
   }
 
   follows_by : (w v : ℕ) → Within w v → v < 2 ^ length book → Follows sets w v
-  follows_by w v i l =
-      both (is_yes (ℕ_discrete (bit_or w v) v)) (is_yes (dec_lt v (2 ^ length book))) (to_yes (ℕ_discrete (bit_or w v) v) i) (to_yes (dec_lt v (2 ^ length book)) l)
+  follows_by w v i l = yes_both (ℕ_discrete (bit_or w v) v) (dec_lt v (2 ^ length book)) i l
 
-  within_of : (w v : ℕ) → Follows sets w v → Within w v
-  within_of w v f = from_yes (ℕ_discrete (bit_or w v) v) (and_left (is_yes (ℕ_discrete (bit_or w v) v)) (is_yes (dec_lt v (2 ^ length book))) f)
-
-  inside_of : (w v : ℕ) → Follows sets w v → v < 2 ^ length book
-  inside_of w v f = from_yes (dec_lt v (2 ^ length book)) (and_right (is_yes (ℕ_discrete (bit_or w v) v)) (is_yes (dec_lt v (2 ^ length book))) f)
+  followed : (w v : ℕ) → Follows sets w v → Within w v × (v < 2 ^ length book)
+  followed w v f = both_yes (ℕ_discrete (bit_or w v) v) (dec_lt v (2 ^ length book)) f
 
   sets_lawful : Lawful sets
   sets_lawful = record {
-    inside = λ w v f. (omega (arith, or_grows w v, within_of w v f, inside_of w v f), inside_of w v f);
+    inside = λ w v f. let (within, l) = followed w v f in (omega (arith, or_grows w v, within, l), l);
     itself = λ w l. follows_by w w (within_self w) l;
-    onward = λ u v w f k. follows_by u w (within_trans u v w (within_of u v f) (within_of v w k)) (inside_of v w k);
-    keeps = λ w v x f t. succeeds_more book false g h h (omega arith) w v x (within_of w v f) t;
+    onward = λ u v w f k. follows_by u w (within_trans u v w (followed u v f).0 (followed v w k).0) (followed v w k).1;
+    keeps = λ w v x f t. succeeds_more book false g h h (omega arith) w v x (followed w v f).0 t;
   }
 
   -- a record that is in a set holds there
@@ -89,11 +85,11 @@ module _ (book : Book) (wf : WellFormed book) (g h : ℕ) (is_enough : Enough bo
   unfolding Own Tight succeeds Enough
   own r tights S l rec has =
       holds_by book wf sets S r
-      (λ v f all. is_enough v (head_of book r) (inside_of S v f) (head_named book g r)
+      (λ v f all. is_enough v (head_of book r) (followed S v f).1 (head_named book g r)
       (step_rule book false g (succeeds book false g h) v (head_of book r) r
-      (record { recorded = rec; in_force = has_within S v r (within_of S v f) has; heads = refl })
+      (record { recorded = rec; in_force = has_within S v r (followed S v f).0 has; heads = refl })
       (all_from (body_passes book (succeeds book false g h) v) (bodies_of book r)
-      (λ b m. tights b m v (inside_of S v f) (each_holds sets v (rule_of book) all m)))))
+      (λ b m. tights b m v (followed S v f).1 (each_holds sets v (rule_of book) all m)))))
 
   tight : (r : ℕ) → ((b : ℕ) → Member b (bodies_of book r) → Own b) → Tight r
   unfolding Own Tight supposing
@@ -104,12 +100,8 @@ module _ (book : Book) (wf : WellFormed book) (g h : ℕ) (is_enough : Enough bo
       (all_hold sets V (rule_of book) (bodies_of book r)
       (λ b k. owned b k V m (member_below (length book) (bodies_recorded book wf r) k) (has_right S (mask (bodies_of book r)) b (member_has k))))
 
-  both_of : (n r : ℕ) → r < n → Own r × Tight r
-  both_of zero r l = absurd (not-suc-le-zero l)
-  both_of (suc n) r l = (
-    own r (λ b m. (both_of n b (omega (arith, member_below r (bodies_below book wf r) m))).1),
-    tight r (λ b m. (both_of n b (omega (arith, member_below r (bodies_below book wf r) m))).0),
-  )
+  both_of : (r : ℕ) → Own r × Tight r
+  both_of = by_bodies book wf (λ r. Own r × Tight r) (λ r h. (own r (λ b m. (h b m).1), tight r (λ b m. (h b m).0)))
 
   -- the chart refutes each goal that has the head g, and that does not succeed
   refutes : (S q : ℕ) → S < 2 ^ length book → (Carries sets (supposing book S q) (head_of book q) → ⊥) → Refuted book S q
@@ -120,8 +112,8 @@ module _ (book : Book) (wf : WellFormed book) (g h : ℕ) (is_enough : Enough bo
         lawful = sets_lawful;
         release = S;
         released = l;
-        in_force = λ r k has. (both_of (suc r) r (omega arith)).0 S l k has;
-        fails = λ holds. none ((both_of (suc q) q (omega arith)).1 S l holds);
+        in_force = λ r k has. (both_of r).0 S l k has;
+        fails = λ holds. none ((both_of q).1 S l holds);
       }
 
 pub decided : Decided

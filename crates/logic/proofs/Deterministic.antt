@@ -113,14 +113,6 @@ module _ (s : Setting) where
   settled_broke : {way : List Query} {q : Query} {i m : ℕ} {o : Outcome} {k : ℕ} → Settled way q i spent m o k → Same spent m o k
   settled_broke broke = (refl, refl)
 
-  record Resumed (way : List Query) (S : ℕ) (bs t : List ℕ) (m : ℕ) (o : Outcome) (k : ℕ) : Type 0 where
-    later : Outcome
-    bodies : Bodies s way S bs m later k
-    joined : prefixed t later ≡ o
-
-  rest_on : {way : List Query} {S : ℕ} {bs t : List ℕ} {m : ℕ} {o : Outcome} {k : ℕ} → Rest way S bs (succeeded t) m o k → Resumed way S bs t m o k
-  rest_on (on {o = o} d e) = record { later = o; bodies = d; joined = e }
-
   rest_off : {way : List Query} {S : ℕ} {bs : List ℕ} {m : ℕ} {o : Outcome} {k : ℕ} → Rest way S bs failed m o k → Same failed m o k
   rest_off off = (refl, refl)
 
@@ -137,6 +129,11 @@ module _ (s : Setting) where
 
   joined_as : (p : List ℕ) {f : Outcome} {k : ℕ} {f' : Outcome} {k' : ℕ} {o : Outcome} → Same f k f' k' → prefixed p f' ≡ o → Same (prefixed p f) k o k'
   joined_as p e j = (ap (prefixed p) e.0 ∙ j, e.1)
+
+  -- where the bodies behind a success have one outcome, so have all of them
+  resumed : {way : List Query} {S : ℕ} {bs : List ℕ} {m : ℕ} {f : Outcome} {k : ℕ} {o : Outcome} {k' : ℕ} (t : List ℕ) → Rest way S bs (succeeded t) m o k'
+      → ((f' : Outcome) → Bodies s way S bs m f' k' → Same f k f' k') → Same (prefixed t f) k o k'
+  resumed t (on {o = o} d e) next = joined_as t (next o d) e
 
   mutual
     asked_one : {way : List Query} {q : Query} {n : ℕ} {o : Outcome} {k : ℕ} {o' : Outcome} {k' : ℕ}
@@ -167,18 +164,9 @@ module _ (s : Setting) where
     bodies_one all_asked all_asked = (refl, refl)
     bodies_one (body_fails a) y = let u = headed y in rest_off (rest_as (asked_one a u.asked) u.rest)
     bodies_one (body_spent a) y = let u = headed y in rest_out (rest_as (asked_one a u.asked) u.rest)
-    bodies_one (rest_succeeds {t = t} a d) y =
-        let u = headed y in
-        let r = rest_on (rest_as (asked_one a u.asked) u.rest) in
-        joined_as t (bodies_one d r.bodies) r.joined
-    bodies_one (rest_fails {t = t} a d) y =
-        let u = headed y in
-        let r = rest_on (rest_as (asked_one a u.asked) u.rest) in
-        joined_as t (bodies_one d r.bodies) r.joined
-    bodies_one (rest_spent {t = t} a d) y =
-        let u = headed y in
-        let r = rest_on (rest_as (asked_one a u.asked) u.rest) in
-        joined_as t (bodies_one d r.bodies) r.joined
+    bodies_one (rest_succeeds {t = t} a d) y = let u = headed y in resumed t (rest_as (asked_one a u.asked) u.rest) (λ o z. bodies_one d z)
+    bodies_one (rest_fails {t = t} a d) y = let u = headed y in resumed t (rest_as (asked_one a u.asked) u.rest) (λ o z. bodies_one d z)
+    bodies_one (rest_spent {t = t} a d) y = let u = headed y in resumed t (rest_as (asked_one a u.asked) u.rest) (λ o z. bodies_one d z)
 
 pub deterministic : Deterministic
 deterministic s way q n o o' k k' a b = asked_one s a b

@@ -1,5 +1,5 @@
 -- The examples: each search is carried out, and the releases of the chart are looked at in turn.
-use Rattle.std.proofs.Common.{◌≡◌, ℕ, zero, suc, ◌<◌, ◌≤◌, ltb, leb, [], refl, subst, zero-le, arith, le→leb, ltb→lt, lt→ltb, leb→le}
+use Rattle.std.proofs.Common.{◌≡◌, ℕ, zero, suc, ◌<◌, ◌≤◌, ltb, leb, [], refl, subst₂, zero-le, arith, le→leb, ltb→lt, lt→ltb, leb→le}
 use Rattle.logic.specs.Rules.{head_of, bodies_of, supposing}
 use Rattle.logic.specs.Charts.{Chart, Lawful, Follows, Carries, Holds, line}
 use Rattle.logic.specs.Search.{Setting, Query, Outcome, Asked}
@@ -8,11 +8,12 @@ use Rattle.logic.specs.Examples.{ExamplesYielded, circular, fact, from_one}
 use Rattle.logic.proofs.Tests.{both, and_left, and_right}
 use Rattle.logic.proofs.Ends.{ends}
 
--- a search that ends so
-ended : (s : Setting) (q : Query) (out : Outcome) (k : ℕ) → (ends s [] q 0 zero-le).0 ≡ out → (ends s [] q 0 zero-le).1 ≡ k → Asked s [] q 0 out k
-ended s q out k e f =
+-- a search that ends so, before the other examples
+ended : {s : Setting} {q : Query} {out : Outcome} {k : ℕ} {Others : Type 0} → (ends s [] q 0 zero-le).0 ≡ out → (ends s [] q 0 zero-le).1 ≡ k → Others
+    → Asked s [] q 0 out k × Others
+ended {s} {q} e f others =
     let r = ends s [] q 0 zero-le in
-    subst (λ (n : ℕ). Asked s [] q 0 out n) f (subst (λ (o : Outcome). Asked s [] q 0 o r.1) e r.2)
+    (subst₂ (λ o n. Asked s [] q 0 o n) e f r.2, others)
 
 -- ---- lines
 
@@ -61,40 +62,12 @@ rule_holds (suc (suc v)) f b = absurd (no_third 0 v f)
 
 pub examples_yielded : ExamplesYielded
 unfolding ends store head_of supposing bodies_of
-examples_yielded = (
-  ended _ _ _ _ refl refl,
-  (
-    ended _ _ _ _ refl refl,
-    (
-      ended _ _ _ _ refl refl,
+examples_yielded =
+    ended refl refl (ended refl refl (ended refl refl (ended refl refl (ended refl refl
+    (ended refl refl (ended refl refl (ended refl refl (ended refl refl (
+      (line_lawful 2 from_one, omega arith, (rule_holds, tt), λ holds. holds 0 tt tt),
       (
-        ended _ _ _ _ refl refl,
-        (
-          ended _ _ _ _ refl refl,
-          (
-            ended _ _ _ _ refl refl,
-            (
-              ended _ _ _ _ refl refl,
-              (
-                ended _ _ _ _ refl refl,
-                (
-                  ended _ _ _ _ refl refl,
-                  (
-                    (line_lawful 2 from_one, omega arith, (rule_holds, tt), λ holds. holds 0 tt tt),
-                    (
-                      (line_lawful 2 from_one, omega arith, (rule_holds, tt), λ holds. holds 1 tt (a_holds, tt)),
-                      (
-                        ended _ _ _ _ refl refl,
-                        tt,
-                      ),
-                    ),
-                  ),
-                ),
-              ),
-            ),
-          ),
-        ),
+        (line_lawful 2 from_one, omega arith, (rule_holds, tt), λ holds. holds 1 tt (a_holds, tt)),
+        ended refl refl tt,
       ),
-    ),
-  ),
-)
+    )))))))))

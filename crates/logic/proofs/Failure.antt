@@ -1,22 +1,18 @@
 -- A search that fails is right: the query has no tree.
 use Rattle.std.proofs.Common.{◌≡◌, ℕ, zero, suc, ◌≤◌, T, ◌⊎◌, List, [], ◌∷◌, sym, subst, inl, inr, ⊎_elim, zero-le, arith, T_not}
-use native.Mathlib.Decide.{ℕ_discrete}
+use Rattle.std.proofs.lemmas.Bool.{cases_eq}
 use Rattle.logic.specs.Rules.{head_of, bodies_of, supposing}
 use Rattle.logic.specs.Trees.{Applies}
 use Rattle.logic.specs.Search.{Setting, Query, On, failed, Asked, barred, begun, Tried, passed, rule_fails, gives_up, restart_fails, Bodies, body_fails, rest_fails}
 use Rattle.logic.specs.Theorems.{FailureRight}
 use Rattle.logic.proofs.Sets.{within_self}
-use Rattle.logic.proofs.Tests.{all_of, all_head, all_tail}
-use Rattle.logic.proofs.Ways.{on_cases}
+use Rattle.logic.proofs.Tests.{all_of, and_left, and_right}
+use Rattle.logic.proofs.Ways.{nothing_on, on_cases}
 use Rattle.logic.proofs.Heights.{body_passes, step_cases, succeeds, succeeds_more, height_of}
 
 -- a number from i on is i or comes after it
 from : (i r : ℕ) → i ≤ r → (r ≡ i) ⊎ (suc i ≤ r)
-from i r l = go (ℕ_discrete r i)
-  where
-    go : Dec (r ≡ i) → (r ≡ i) ⊎ (suc i ≤ r)
-    go (yes e) = inl e
-    go (no e) = inr (omega arith)
+from i r l = ⊎_elim (λ e. inl e) (λ no. inr (omega arith)) (cases_eq r i)
 
 module _ (s : Setting) where
   -- the query has a tree of at most h levels
@@ -43,10 +39,10 @@ module _ (s : Setting) where
         before = n;
         after = k;
         asked = a;
-        low = all_head (body_passes s.book (succeeds s.book s.restart s.goal h) S) b bs t;
+        low = and_left (body_passes s.book (succeeds s.book s.restart s.goal h) S b) (all_of (body_passes s.book (succeeds s.book s.restart s.goal h) S) bs) t;
       }
   bodies_missed h (rest_fails {S = S} {b = b} {bs = bs} a r) t =
-      bodies_missed h r (all_tail (body_passes s.book (succeeds s.book s.restart s.goal h) S) b bs t)
+      bodies_missed h r (and_right (body_passes s.book (succeeds s.book s.restart s.goal h) S b) (all_of (body_passes s.book (succeeds s.book s.restart s.goal h) S) bs) t)
 
   -- each record that applies was tried, and failed
   rule_failed : {way : List Query} {q : Query} {i n k : ℕ} → Tried s way q i n failed k
@@ -82,9 +78,6 @@ module _ (s : Setting) where
   abbrev Above : List Query → ℕ → Type 0
   Above way h = (p : Query) × On p way × Low h p
 
-  raise_above : {way : List Query} (h : ℕ) → Above way h → Above way (suc h)
-  raise_above h a = (a.0, a.1, raise h a.0 a.2)
-
   -- a query that failed and has a low tree: then so has one on its way
   missed_above : (h : ℕ) (way : List Query) (q : Query) (n k : ℕ) → Asked s way q n failed k → Low h q → Above way h
   unfolding succeeds
@@ -93,14 +86,11 @@ module _ (s : Setting) where
   missed_above (suc h) way q n k (begun new room d) t =
       let m = tried_missed h d t in
       let a = missed_above h (q ∷ way) m.query m.before m.after m.asked m.low in
-      raise_above h
-      (⊎_elim (λ e. missed_above h way q n k (begun new room d) (subst (Low h) e a.2)) (λ o. (a.0, o, a.2)) (on_cases a.1))
+      let (p, o, low) = ⊎_elim (λ e. missed_above h way q n k (begun new room d) (subst (Low h) e a.2)) (λ o. (a.0, o, a.2)) (on_cases a.1) in
+      (p, o, raise h p low)
 
 pub failure_right : FailureRight
 failure_right s q n k a tree =
     let i = height_of s.book s.restart s.goal tree in
     let m = missed_above s i.0 [] q n k a i.1 in
-    none_on m.1
-  where
-    none_on : {p : Query} → On p [] → ⊥
-    none_on o = elim o [ ]
+    nothing_on m.1

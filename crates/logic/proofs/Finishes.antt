@@ -1,15 +1,13 @@
 -- From some budget on the search comes to an answer: of the finitely many queries each stands at most once on a way down.
-use Rattle.std.proofs.Common.{◌≡◌, ℕ, zero, suc, ◌+◌, ◌*◌, ◌/◌, ◌%◌, ◌^◌, ◌<◌, ◌≤◌, max, Bool, not, T, List, [], ◌∷◌, ◌++◌, length, sym, subst, ⊎_elim, arith, T_not}
-use mathlib.Core.Logic.{by_cases}
+use Rattle.std.proofs.Common.{◌≡◌, ℕ, zero, suc, ◌+◌, ◌*◌, ◌/◌, ◌%◌, ◌^◌, ◌<◌, ◌≤◌, max, Bool, not, T, List, [], ◌∷◌, length, sym, subst, ⊎_elim, zero-le, arith, T_not}
 use lib.Dec.{not_T}
 use Rattle.std.proofs.lemmas.Nat.{mul-add-lt, div-mul-add, mod-mul-add}
 use Rattle.logic.specs.Rules.{Book, head_of, bodies_of, WellFormed, supposing}
-use Rattle.logic.specs.Trees.{Applies}
-use Rattle.logic.specs.Search.{Setting, Query, On, here, there, Outcome, failed, spent, succeeded, Asked, barred, begun, Tried, passed, rule_succeeds, rule_fails, gives_up, restart_succeeds, restart_fails, Bodies, all_asked, body_fails, rest_succeeds, rest_fails}
+use Rattle.logic.specs.Search.{Setting, Query, On, here, there, Outcome, failed, spent, succeeded, Asked, barred, no_budget, begun, Tried, passed, rule_succeeds, rule_fails, rule_spent, gives_up, restart_succeeds, restart_fails, restart_spent, Bodies, all_asked, body_fails, body_spent, rest_succeeds, rest_fails, rest_spent}
 use Rattle.logic.specs.Theorems.{Answered, with_tree, with_none, Finishes}
+use Rattle.logic.proofs.Ends.{ends}
 use Rattle.logic.proofs.Rules.{supposing_lt}
-use Rattle.logic.proofs.Tests.{is_yes, from_yes, to_yes, dec_T, count, count_le, same_or_more}
-use Rattle.logic.proofs.Heights.{dec_applies}
+use Rattle.logic.proofs.Tests.{is_yes, from_yes, to_yes, count, count_le, same_or_more}
 use Rattle.logic.proofs.Ways.{query_same, dec_on}
 use Rattle.logic.proofs.Complete.{names, goal_named, head_named}
 
@@ -19,13 +17,13 @@ Unspent (succeeded t) = Unit {0}
 Unspent failed = Unit {0}
 Unspent spent = ⊥
 
--- an outcome and a count that are so related, not spent, and within a limit
-record Result (R : Outcome → ℕ → Type 0) (limit : ℕ) : Type 0 where
-  out : Outcome
-  count_of : ℕ
-  ended : R out count_of
+-- not spent, and counted up to a limit at most
+record Bound (out : Outcome) (count_of limit : ℕ) : Type 0 where
   unspent : Unspent out
   within : count_of ≤ limit
+
+looser : {out : Outcome} {n a b : ℕ} → a ≤ b → Bound out n a → Bound out n b
+looser l w = record { unspent = w.unspent; within = omega (arith, w.within) }
 
 -- ---- what is counted at most, where each query counts at most c
 
@@ -49,80 +47,8 @@ module _ (s : Setting) (wf : WellFormed s.book) (k : ℕ) (heads : (r : ℕ) →
     set : q.in_force < 2 ^ length s.book
     named : q.name < k
 
-  -- ---- one query, given that each query below it finishes
-
-  module _ (way : List Query) (c : ℕ) (ask : (q : Query) (n : ℕ) → Proper q → n + c ≤ s.budget → Result (Asked s way q n) (n + c)) where
-    bodies_finish : (S : ℕ) → S < 2 ^ length s.book → (bs : List ℕ) (n : ℕ) → n + bodies_cost c bs ≤ s.budget
-        → Result (Bodies s way S bs n) (n + bodies_cost c bs)
-    unfolding bodies_cost
-    bodies_finish S l [] n b = record { out = succeeded []; count_of = n; ended = all_asked; unspent = tt; within = omega arith }
-    bodies_finish S l (b ∷ bs) n room =
-        let r = ask (record { in_force = supposing s.book S b; name = head_of s.book b }) n
-        (record { set = supposing_lt s.book wf S b l; named = heads b }) (omega arith) in
-        go r.out r.count_of r.ended r.unspent r.within (bodies_finish S l bs)
-      where
-        join : (t : List ℕ) (m : ℕ) → Asked s way (record { in_force = supposing s.book S b; name = head_of s.book b }) n (succeeded t) m
-            → m ≤ n + c → (o : Outcome) (j : ℕ) → Bodies s way S bs m o j → Unspent o → j ≤ m + bodies_cost c bs
-            → Result (Bodies s way S (b ∷ bs) n) (n + (c + bodies_cost c bs))
-        join t m a le (succeeded ts) j d u w = record { out = succeeded (t ++ ts); count_of = j; ended = rest_succeeds a d; unspent = tt; within = omega arith }
-        join t m a le failed j d u w = record { out = failed; count_of = j; ended = rest_fails a d; unspent = tt; within = omega arith }
-        join t m a le spent j d u w = absurd u
-
-        go : (o : Outcome) (m : ℕ) → Asked s way (record { in_force = supposing s.book S b; name = head_of s.book b }) n o m → Unspent o → m ≤ n + c
-            → ((m : ℕ) → m + bodies_cost c bs ≤ s.budget → Result (Bodies s way S bs m) (m + bodies_cost c bs))
-            → Result (Bodies s way S (b ∷ bs) n) (n + (c + bodies_cost c bs))
-        go (succeeded t) m a u le next = let d = next m (omega arith) in join t m a le d.out d.count_of d.ended d.unspent d.within
-        go failed m a u le next = record { out = failed; count_of = m; ended = body_fails a; unspent = tt; within = omega arith }
-        go spent m a u le next = absurd u
-
-    restart_finish : (q : Query) → Proper q → (i n : ℕ) → i ≡ length s.book → n + c ≤ s.budget → Result (Tried s way q i n) (n + c)
-    restart_finish q p i n e room = go (dec_T s.restart)
-      where
-        mark : T s.restart → (o : Outcome) (m : ℕ) → Asked s way (record { in_force = q.in_force; name = s.goal }) n o m → Unspent o → m ≤ n + c
-            → Result (Tried s way q i n) (n + c)
-        mark t (succeeded bs) m a u le = record { out = succeeded (2 ∷ bs); count_of = m; ended = restart_succeeds e t a; unspent = tt; within = le }
-        mark t failed m a u le = record { out = failed; count_of = m; ended = restart_fails e t a; unspent = tt; within = le }
-        mark t spent m a u le = absurd u
-
-        go : Dec (T s.restart) → Result (Tried s way q i n) (n + c)
-        go (yes t) =
-            let r = ask (record { in_force = q.in_force; name = s.goal }) n (record { set = p.set; named = goal }) room in
-            mark t r.out r.count_of r.ended r.unspent r.within
-        go (no t) = record { out = failed; count_of = n; ended = gives_up e (not_T s.restart t); unspent = tt; within = omega arith }
-
-    tried_finish : (q : Query) → Proper q → (d i n : ℕ) → i + d ≡ length s.book → n + tried_cost s.book c d i ≤ s.budget
-        → Result (Tried s way q i n) (n + tried_cost s.book c d i)
-    unfolding tried_cost
-    tried_finish q p zero i n e room = restart_finish q p i n (omega arith) room
-    tried_finish q p (suc d) i n e room =
-        go (dec_applies s.book q.in_force q.name i) (λ m. tried_finish q p d (suc i) m (omega arith))
-      where
-        l : i < length s.book
-        l = omega arith
-
-        bc : ℕ
-        bc = bodies_cost c (bodies_of s.book i)
-
-        tc : ℕ
-        tc = tried_cost s.book c d (suc i)
-
-        by : Applies s.book q.in_force q.name i → (o : Outcome) (m : ℕ)
-            → Bodies s way q.in_force (bodies_of s.book i) n o m → Unspent o → m ≤ n + bc
-            → ((m : ℕ) → m + tc ≤ s.budget → Result (Tried s way q (suc i) m) (m + tc)) → Result (Tried s way q i n) (n + (bc + tc))
-        by a (succeeded t) m d u le next = record { out = succeeded (1 ∷ i ∷ t); count_of = m; ended = rule_succeeds l a d; unspent = tt; within = omega arith }
-        by a failed m d u le next =
-            let r = next m (omega arith) in
-            record { out = r.out; count_of = r.count_of; ended = rule_fails l a d r.ended; unspent = r.unspent; within = omega (arith, r.within) }
-        by a spent m d u le next = absurd u
-
-        go : Dec (Applies s.book q.in_force q.name i)
-            → ((m : ℕ) → m + tc ≤ s.budget → Result (Tried s way q (suc i) m) (m + tc)) → Result (Tried s way q i n) (n + (bc + tc))
-        go (yes a) next =
-            let r = bodies_finish q.in_force p.set (bodies_of s.book i) n (omega arith) in
-            by a r.out r.count_of r.ended r.unspent r.within next
-        go (no a) next =
-            let r = next n (omega arith) in
-            record { out = r.out; count_of = r.count_of; ended = passed l a r.ended; unspent = r.unspent; within = omega (arith, r.within) }
+  body_proper : (S b : ℕ) → S < 2 ^ length s.book → Proper (record { in_force = supposing s.book S b; name = head_of s.book b })
+  body_proper S b l = record { set = supposing_lt s.book wf S b l; named = heads b }
 
   -- ---- how many proper queries are not yet on a way
 
@@ -162,20 +88,56 @@ module _ (s : Setting) (wf : WellFormed s.book) (k : ℕ) (heads : (r : ℕ) →
       grows i t = not_T (is_yes (dec_on (numbered i) way))
           (λ y. T_not (is_yes (dec_on (numbered i) (q ∷ way))) t (to_yes (dec_on (numbered i) (q ∷ way)) (there (from_yes (dec_on (numbered i) way) y))))
 
-  asked_finish : (f : ℕ) (way : List Query) → open_queries way ≤ f → (q : Query) (n : ℕ) → Proper q → n + asked_cost s.book f ≤ s.budget
-      → Result (Asked s way q n) (n + asked_cost s.book f)
-  unfolding asked_cost
-  asked_finish zero way o q n p room =
-      by_cases (dec_on q way)
-      (λ on. record { out = failed; count_of = n; ended = barred on; unspent = tt; within = omega arith })
-      (λ new. absurd (omega (arith, fewer way q p new)))
-  asked_finish (suc f) way o q n p room =
-      by_cases (dec_on q way)
-      (λ on. record { out = failed; count_of = n; ended = barred on; unspent = tt; within = omega arith })
-      (λ new.
-      let r = tried_finish (q ∷ way) (asked_cost s.book f) (asked_finish f (q ∷ way) (omega (arith, fewer way q p new)))
-      q p (length s.book) 0 (suc n) (omega arith) (omega arith) in
-      record { out = r.out; count_of = r.count_of; ended = begun new (omega arith) r.ended; unspent = r.unspent; within = omega (arith, r.within) })
+  -- ---- however a search ends, it is not spent where there is room for its cost
+
+  mutual
+    unfolding bodies_cost tried_cost asked_cost
+
+    asked_bound : (f : ℕ) {way : List Query} {q : Query} {n : ℕ} {out : Outcome} {j : ℕ} → open_queries way ≤ f → Proper q
+        → n + asked_cost s.book f ≤ s.budget → Asked s way q n out j → Bound out j (n + asked_cost s.book f)
+    asked_bound zero {way} {q} o p room (no_budget new e) = absurd (omega (arith, fewer way q p new))
+    asked_bound zero {way} {q} o p room (begun new e t) = absurd (omega (arith, fewer way q p new))
+    asked_bound (suc f) o p room (no_budget new e) = absurd (omega arith)
+    asked_bound (suc f) {way} {q} o p room (begun new e t) =
+        looser (omega arith) (tried_bound f (length s.book) (omega (arith, fewer way q p new)) p (omega arith) (omega arith) t)
+    asked_bound f o p room (barred on) = record { unspent = tt; within = omega arith }
+
+    -- d records are left to be tried
+    tried_bound : (f d : ℕ) {way : List Query} {q : Query} {i n : ℕ} {out : Outcome} {j : ℕ} → open_queries way ≤ f → Proper q → i + d ≡ length s.book
+        → n + tried_cost s.book (asked_cost s.book f) d i ≤ s.budget → Tried s way q i n out j
+        → Bound out j (n + tried_cost s.book (asked_cost s.book f) d i)
+    tried_bound f zero o p e room (passed l a t) = absurd (omega arith)
+    tried_bound f zero o p e room (rule_succeeds l a b) = absurd (omega arith)
+    tried_bound f zero o p e room (rule_fails l a b t) = absurd (omega arith)
+    tried_bound f zero o p e room (rule_spent l a b) = absurd (omega arith)
+    tried_bound f zero o p e room (restart_succeeds h t a) =
+        record { unspent = tt; within = (asked_bound f o (record { set = p.set; named = goal }) room a).within }
+    tried_bound f zero o p e room (restart_fails h t a) = asked_bound f o (record { set = p.set; named = goal }) room a
+    tried_bound f zero o p e room (restart_spent h t a) = asked_bound f o (record { set = p.set; named = goal }) room a
+    tried_bound f (suc d) o p e room (passed l a t) = looser (omega arith) (tried_bound f d o p (omega arith) (omega arith) t)
+    tried_bound f (suc d) o p e room (rule_succeeds l a b) =
+        record { unspent = tt; within = omega (arith, (bodies_bound f o p.set (omega arith) b).within) }
+    tried_bound f (suc d) o p e room (rule_fails l a b t) =
+        let w = bodies_bound f o p.set (omega arith) b in
+        looser (omega (arith, w.within)) (tried_bound f d o p (omega arith) (omega (arith, w.within)) t)
+    tried_bound f (suc d) o p e room (rule_spent l a b) = looser (omega arith) (bodies_bound f o p.set (omega arith) b)
+    tried_bound f (suc d) o p e room (restart_succeeds h t a) = absurd (omega arith)
+    tried_bound f (suc d) o p e room (restart_fails h t a) = absurd (omega arith)
+    tried_bound f (suc d) o p e room (restart_spent h t a) = absurd (omega arith)
+    tried_bound f d o p e room (gives_up h t) = record { unspent = tt; within = omega arith }
+
+    bodies_bound : (f : ℕ) {way : List Query} {S : ℕ} {bs : List ℕ} {n : ℕ} {out : Outcome} {j : ℕ} → open_queries way ≤ f → S < 2 ^ length s.book
+        → n + bodies_cost (asked_cost s.book f) bs ≤ s.budget → Bodies s way S bs n out j → Bound out j (n + bodies_cost (asked_cost s.book f) bs)
+    bodies_bound f o l room all_asked = record { unspent = tt; within = omega arith }
+    bodies_bound f o l room (body_fails {S = S} {b = b} a) = looser (omega arith) (asked_bound f o (body_proper S b l) (omega arith) a)
+    bodies_bound f o l room (body_spent {S = S} {b = b} a) = looser (omega arith) (asked_bound f o (body_proper S b l) (omega arith) a)
+    bodies_bound f o l room (rest_succeeds {S = S} {b = b} a d) =
+        let w = asked_bound f o (body_proper S b l) (omega arith) a in
+        record { unspent = tt; within = omega (arith, w.within, (bodies_bound f o l (omega (arith, w.within)) d).within) }
+    bodies_bound f o l room (rest_fails {S = S} {b = b} a d) =
+        let w = asked_bound f o (body_proper S b l) (omega arith) a in looser (omega (arith, w.within)) (bodies_bound f o l (omega (arith, w.within)) d)
+    bodies_bound f o l room (rest_spent {S = S} {b = b} a d) =
+        let w = asked_bound f o (body_proper S b l) (omega arith) a in looser (omega (arith, w.within)) (bodies_bound f o l (omega (arith, w.within)) d)
 
 pub finishes : Finishes
 finishes book wf restart g q l = (
@@ -184,8 +146,9 @@ finishes book wf restart g q l = (
       let s : Setting = record { book = book; restart = restart; goal = g; budget = budget } in
       let heads = head_named book (max g q.name) in
       let goal : g < k = omega (arith, named) in
-      let r = asked_finish s wf k heads goal (k * 2 ^ length book) [] (all_open s wf k heads goal) q 0 (record { set = l; named = omega (arith, named) }) (omega arith) in
-      answer s r.out r.count_of r.ended r.unspent,
+      let (out, n, asked) = ends s [] q 0 zero-le in
+      let proper : Proper s wf k heads goal q = record { set = l; named = omega (arith, named) } in
+      answer s out n asked (asked_bound s wf k heads goal (k * 2 ^ length book) (all_open s wf k heads goal) proper (omega arith) asked).unspent,
 )
   where
     k : ℕ

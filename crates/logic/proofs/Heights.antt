@@ -5,7 +5,7 @@ use Rattle.logic.specs.Sets.{Has, Within, mask}
 use Rattle.logic.specs.Rules.{Book, head_of, bodies_of, supposing}
 use Rattle.logic.specs.Trees.{Tree, Trees, by_rule, by_restart, no_body, body, Applies}
 use Rattle.logic.proofs.Sets.{dec_has, within_self, within_both, has_within}
-use Rattle.logic.proofs.Tests.{is_yes, from_yes, to_yes, both, and_left, and_right, or_left, or_right, or_cases, some_below, some_found, some_at, all_of, all_nil, all_cons, all_head, all_tail, all_map}
+use Rattle.logic.proofs.Tests.{is_yes, from_yes, to_yes, both, and_left, and_right, or_left, or_right, or_cases, some_below, some_found, some_at, all_of, all_map}
 
 unfoldable pub dec_applies : (book : Book) (S x r : ℕ) → Dec (Applies book S x r)
 unfolding dec_lt dec_has ℕ_discrete head_of
@@ -84,8 +84,8 @@ module _ (book : Book) (restart : Bool) (g : ℕ) where
       → (S : ℕ) (bs : List ℕ) → T (all_of (body_passes book P S) bs) → Trees book restart g S bs
   all_trees P k S [] t = no_body
   all_trees P k S (b ∷ bs) t =
-      body (k (supposing book S b) (head_of book b) (all_head (body_passes book P S) b bs t))
-      (all_trees P k S bs (all_tail (body_passes book P S) b bs t))
+      body (k (supposing book S b) (head_of book b) (and_left (body_passes book P S b) (all_of (body_passes book P S) bs) t))
+      (all_trees P k S bs (and_right (body_passes book P S b) (all_of (body_passes book P S) bs) t))
 
   pub tree_of : (h S x : ℕ) → T (succeeds h S x) → Tree book restart g S x
   unfolding succeeds
@@ -102,13 +102,13 @@ module _ (book : Book) (restart : Bool) (g : ℕ) where
     height_of {S} {x} (by_restart t tree) = let i = height_of tree in (suc i.0, step_restart (succeeds i.0) S x t i.1)
 
     pub heights_of : {S : ℕ} {bs : List ℕ} → Trees book restart g S bs → (h : ℕ) × T (all_of (body_passes book (succeeds h) S) bs)
-    heights_of {S} no_body = (zero, all_nil (body_passes book (succeeds zero) S))
+    heights_of {S} no_body = (zero, tt)
     heights_of (body {S = S} {b = b} {bs = bs} t ts) =
         let i = height_of t in
         let j = heights_of ts in
         let m = max i.0 j.0 in (
           m,
-          all_cons (body_passes book (succeeds m) S) b bs
+          both (body_passes book (succeeds m) S b) (all_of (body_passes book (succeeds m) S) bs)
               (succeeds_more i.0 m (omega arith) (supposing book S b) (supposing book S b) (head_of book b) (within_self (supposing book S b)) i.1)
               (all_map (body_passes book (succeeds j.0) S) (body_passes book (succeeds m) S)
               (λ c. succeeds_more j.0 m (omega arith) (supposing book S c) (supposing book S c) (head_of book c) (within_self (supposing book S c))) bs j.1),

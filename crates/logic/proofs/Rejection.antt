@@ -1,23 +1,13 @@
 -- Bytes are accepted or rejected, never both, and rejected at one place only.
-use Rattle.std.proofs.Common.{◌≡◌, ℕ, ◌+◌, ◌<◌, Bool, T, ◌⊎◌, List, [], ◌∷◌, ◌++◌, length, sym, refl, subst, inl, inr}
-use native.Mathlib.Decide.{ℕ_discrete, dec_lt}
-use Rattle.logic.specs.Rules.{Book, bodies_of, head_of}
+use Rattle.std.proofs.Common.{◌≡◌, ℕ, ◌+◌, Bool, T, ◌⊎◌, List, [], ◌∷◌, ◌++◌, sym, refl, subst, inl, inr}
+use native.Mathlib.Decide.{ℕ_discrete}
+use Rattle.logic.specs.Rules.{Book, bodies_of}
 use Rattle.logic.specs.Trees.{Applies}
 use Rattle.logic.specs.Search.{Query}
 use Rattle.logic.specs.Check.{Answers, none_waits, rule_byte, restart_byte, body_queries}
-use Rattle.logic.proofs.Sets.{dec_has}
+use Rattle.logic.proofs.Heights.{dec_applies}
 use Rattle.logic.proofs.Tests.{dec_T}
 use Rattle.logic.specs.Check.{Rejects, too_many, no_kind, no_record, wrong_kind, no_restart, wrong_record, after_record, after_restart, RejectsRight}
-
--- whether a record applies can be decided
-dec_applies : (book : Book) (S x r : ℕ) → Dec (Applies book S x r)
-dec_applies book S x r = go (dec_lt r (length book)) (dec_has S r) (ℕ_discrete (head_of book r) x)
-  where
-    go : Dec (r < length book) → Dec (Rattle.logic.specs.Sets.Has S r) → Dec (head_of book r ≡ x) → Dec (Applies book S x r)
-    go (yes l) (yes h) (yes e) = yes (record { recorded = l; in_force = h; heads = e })
-    go (yes l) (yes h) (no e) = no (λ a. e a.heads)
-    go (yes l) (no h) d = no (λ a. h a.in_force)
-    go (no l) c d = no (λ a. l a.recorded)
 
 module _ (book : Book) (restart : Bool) (g : ℕ) where
   abbrev Settled : List Query → ℕ → List ℕ → Type 0

@@ -1,15 +1,14 @@
 -- Where a goal has no tree with restart, a chart of a single release refutes it.
-use Rattle.std.proofs.Common.{◌≡◌, ℕ, zero, suc, ◌+◌, ◌^◌, ◌<◌, ◌≤◌, Bool, true, not, ◌&&◌, T, ◌⊎◌, length, sym, refl, subst, inl, inr, ⊎_elim, not-suc-le-zero, arith, T_not}
+use Rattle.std.proofs.Common.{◌≡◌, ℕ, zero, suc, ◌+◌, ◌^◌, ◌<◌, ◌≤◌, Bool, true, ◌&&◌, T, ◌⊎◌, length, sym, refl, subst, inl, inr, ⊎_elim, arith}
 use native.Mathlib.Decide.{ℕ_discrete}
-use lib.Dec.{not_T}
 use Rattle.logic.specs.Sets.{Has, Within, mask}
 use Rattle.logic.specs.Rules.{Book, head_of, bodies_of, WellFormed, supposing, each, rule_of}
 use Rattle.logic.specs.Charts.{Chart, Lawful, Follows, Carries, Holds, AllHold}
 use Rattle.logic.specs.Theorems.{GoalTree, Refuted, RestartDecided, RestartComplete}
 use Rattle.logic.proofs.Sets.{Member, has_right, has_within, member_has, member_below, or_grows, within_self, within_join, within_trans}
-use Rattle.logic.proofs.Rules.{bodies_below, bodies_recorded, supposing_lt}
+use Rattle.logic.proofs.Rules.{by_bodies, bodies_recorded, supposing_lt}
 use Rattle.logic.proofs.Sound.{all_hold, each_holds, holds_as, holds_by}
-use Rattle.logic.proofs.Tests.{is_yes, from_yes, to_yes, dec_T, both, and_left, and_right, some_below, some_found, some_at, all_from}
+use Rattle.logic.proofs.Tests.{found_or_all, yes_both, both_yes, is_yes, dec_T, all_from}
 use Rattle.logic.proofs.Heights.{body_passes, step_rule, step_restart, succeeds, tree_of}
 use Rattle.logic.proofs.Complete.{names, head_named, Enough, enough}
 
@@ -37,41 +36,36 @@ module _ (book : Book) (wf : WellFormed book) (P : ℕ → Bool) where
     largest : (r : ℕ) → r < length book → (supposing book set r ≡ set) ⊎ T (P (supposing book set r))
 
   -- the bodies of r add something, and the test is still failed
-  larger : ℕ → ℕ → Bool
-  larger S r = not (is_yes (ℕ_discrete (supposing book S r) S)) && not (P (supposing book S r))
+  abbrev Larger : ℕ → ℕ → Type 0
+  Larger S r = ¬ (supposing book S r ≡ S) × ¬ T (P (supposing book S r))
+
+  abbrev Rests : ℕ → ℕ → Type 0
+  Rests S r = (supposing book S r ≡ S) ⊎ T (P (supposing book S r))
+
+  larger_or_rests : (S r : ℕ) → Larger S r ⊎ Rests S r
+  larger_or_rests S r = go (ℕ_discrete (supposing book S r) S) (dec_T (P (supposing book S r)))
+    where
+      go : Dec (supposing book S r ≡ S) → Dec (T (P (supposing book S r))) → Larger S r ⊎ Rests S r
+      go (yes e) d = inr (inl e)
+      go (no e) (yes p) = inr (inr p)
+      go (no e) (no p) = inl (e, p)
 
   largest_from : (fuel S : ℕ) → S < 2 ^ length book → 2 ^ length book ≤ S + fuel → (T (P S) → ⊥) → Largest S
-  unfolding larger
   largest_from zero S l f n = absurd (omega arith)
-  largest_from (suc fuel) S l f n = go (dec_T (some_below (length book) (larger S))) (largest_from fuel)
-    where
-      go : Dec (T (some_below (length book) (larger S)))
-          → ((V : ℕ) → V < 2 ^ length book → 2 ^ length book ≤ V + fuel → (T (P V) → ⊥) → Largest V) → Largest S
-      go (yes t) next =
-          let i = some_found (length book) (larger S) t in
-          let V = supposing book S i.0 in
-          let d = is_yes (ℕ_discrete V S) in
-          let differs : V ≡ S → ⊥ = λ e. T_not d (and_left (not d) (not (P V)) i.2) (to_yes (ℕ_discrete V S) e) in
-          let up : S < V = omega (arith, supposing_grows book S i.0, differs) in
-          let w = next V (supposing_lt book wf S i.0 l) (omega arith) (T_not (P V) (and_right (not d) (not (P V)) i.2)) in
-          record {
-            set = w.set;
-            bounded = w.bounded;
-            holds_all = within_trans S V w.set (supposing_within book S i.0) w.holds_all;
-            refused = w.refused;
-            largest = w.largest;
-          }
-      go (no t) next =
-          record { set = S; bounded = l; holds_all = within_self S; refused = n; largest = λ r k. by r k (ℕ_discrete (supposing book S r) S) (dec_T (P (supposing book S r))) }
-        where
-          by : (r : ℕ) → r < length book → Dec (supposing book S r ≡ S) → Dec (T (P (supposing book S r))) → (supposing book S r ≡ S) ⊎ T (P (supposing book S r))
-          by r k (yes e) d = inl e
-          by r k (no e) (yes p) = inr p
-          by r k (no e) (no p) =
-              absurd (t (some_at (length book) (larger S) r k
-              (both (not (is_yes (ℕ_discrete (supposing book S r) S))) (not (P (supposing book S r)))
-              (not_T (is_yes (ℕ_discrete (supposing book S r) S)) (λ y. e (from_yes (ℕ_discrete (supposing book S r) S) y)))
-              (not_T (P (supposing book S r)) p))))
+  largest_from (suc fuel) S l f n =
+      ⊎_elim
+      (λ i.
+      let V = supposing book S i.0 in
+      let w = largest_from fuel V (supposing_lt book wf S i.0 l) (omega (arith, supposing_grows book S i.0, i.2.0)) i.2.1 in
+      record {
+        set = w.set;
+        bounded = w.bounded;
+        holds_all = within_trans S V w.set (supposing_within book S i.0) w.holds_all;
+        refused = w.refused;
+        largest = w.largest;
+      })
+      (λ rests. record { set = S; bounded = l; holds_all = within_self S; refused = n; largest = rests })
+      (found_or_all (length book) (Larger S) (Rests S) (larger_or_rests S))
 
 -- ---- the chart of that set alone
 
@@ -84,20 +78,17 @@ module _ (book : Book) (wf : WellFormed book) (g h V : ℕ) (bounded : V < 2 ^ l
     carries = λ w x. succeeds book true g h V x;
   }
 
-  from_zero : (w v : ℕ) → Follows single w v → w ≡ 0
-  from_zero w v f = from_yes (ℕ_discrete w 0) (and_left (is_yes (ℕ_discrete w 0)) (is_yes (ℕ_discrete v 0)) f)
-
-  to_zero : (w v : ℕ) → Follows single w v → v ≡ 0
-  to_zero w v f = from_yes (ℕ_discrete v 0) (and_right (is_yes (ℕ_discrete w 0)) (is_yes (ℕ_discrete v 0)) f)
+  zeros : (w v : ℕ) → Follows single w v → (w ≡ 0) × (v ≡ 0)
+  zeros w v f = both_yes (ℕ_discrete w 0) (ℕ_discrete v 0) f
 
   joined : (w v : ℕ) → w ≡ 0 → v ≡ 0 → Follows single w v
-  joined w v p q = both (is_yes (ℕ_discrete w 0)) (is_yes (ℕ_discrete v 0)) (to_yes (ℕ_discrete w 0) p) (to_yes (ℕ_discrete v 0) q)
+  joined w v p q = yes_both (ℕ_discrete w 0) (ℕ_discrete v 0) p q
 
   single_lawful : Lawful single
   single_lawful = record {
-    inside = λ w v f. omega (arith, from_zero w v f, to_zero w v f);
+    inside = λ w v f. omega (arith, zeros w v f);
     itself = λ w l. joined w w (omega arith) (omega arith);
-    onward = λ u v w f k. joined u w (from_zero u v f) (to_zero v w k);
+    onward = λ u v w f k. joined u w (zeros u v f).0 (zeros v w k).1;
     keeps = λ w v x f t. t;
   }
 
@@ -125,7 +116,7 @@ module _ (book : Book) (wf : WellFormed book) (g h V : ℕ) (bounded : V < 2 ^ l
       (record { recorded = rec; in_force = has; heads = refl })
       (all_from (body_passes book (succeeds book true g h) V) (bodies_of book r)
       (λ b m. tights b m (member_below (length book) (bodies_recorded book wf r) m)
-      (each_holds single 0 (rule_of book) (subst (λ (u : ℕ). AllHold single u (each (rule_of book) (bodies_of book r))) (to_zero 0 v f) all) m)))))
+      (each_holds single 0 (rule_of book) (subst (λ (u : ℕ). AllHold single u (each (rule_of book) (bodies_of book r))) (zeros 0 v f).1 all) m)))))
 
   tight : (r : ℕ) → ((b : ℕ) → Member b (bodies_of book r) → Own b) → Tight r
   unfolding Own Tight succeeds Enough
@@ -137,19 +128,15 @@ module _ (book : Book) (wf : WellFormed book) (g h V : ℕ) (bounded : V < 2 ^ l
       (step_restart book true g (succeeds book true g h) (supposing book V r) (head_of book r) tt t))
       (largest r rec)
 
-  both_of : (n r : ℕ) → r < n → Own r × Tight r
-  both_of zero r l = absurd (not-suc-le-zero l)
-  both_of (suc n) r l = (
-    own r (λ b m. (both_of n b (omega (arith, member_below r (bodies_below book wf r) m))).1),
-    tight r (λ b m. (both_of n b (omega (arith, member_below r (bodies_below book wf r) m))).0),
-  )
+  both_of : (r : ℕ) → Own r × Tight r
+  both_of = by_bodies book wf (λ r. Own r × Tight r) (λ r h. (own r (λ b m. (h b m).1), tight r (λ b m. (h b m).0)))
 
   -- the chart refutes each goal that has the head g, and whose set is within V
   refutes : (S q : ℕ) → head_of book q ≡ g → Within (supposing book S q) V → (T (succeeds book true g h V g) → ⊥)
       → (refuted : Refuted book S q) × (refuted.chart.size ≡ 1)
   unfolding Own
   refutes S q e w refused =
-      let owned : (b : ℕ) → Own b = λ b. (both_of (suc b) b (omega arith)).0 in (
+      let owned : (b : ℕ) → Own b = λ b. (both_of b).0 in (
         record {
           chart = single;
           lawful = single_lawful;

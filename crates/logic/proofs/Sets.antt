@@ -1,34 +1,25 @@
 -- Sets of records as bit masks: what is in a union, in a mask of a list.
-use Rattle.std.proofs.Common.{◌≡◌, ℕ, zero, suc, ◌+◌, ◌-◌, ◌*◌, ◌/◌, ◌%◌, ◌^◌, ◌<◌, ◌≤◌, max, ◌⊎◌, List, [], ◌∷◌, sym, refl, ap, ◌∙◌, subst, inl, inr, ⊎_elim, pow-suc, arith}
-use native.Mathlib.Nat.{zero-div, div_self, div-eq_of_lt, pow-le-pow_right}
-use native.Mathlib.Decide.{ℕ_discrete, dec_lt}
-use lib.Bits.{bit_or, or_shr, or_step, or_comm, or_self, or_add_and, and_le_r, or_lt}
-use lib.Arith.{bin_ind}
-use Rattle.std.proofs.lemmas.Nat.{shl-shr, pow_pos, pow-add, pow_below}
+use Rattle.std.proofs.Common.{◌≡◌, ℕ, zero, ◌/◌, ◌%◌, ◌^◌, ◌<◌, ◌≤◌, ◌⊎◌, List, [], ◌∷◌, sym, ap, ◌∙◌, subst, inl, inr, ⊎_elim, arith}
+use native.Mathlib.Decide.{ℕ_discrete}
+use lib.Bits.{bit_or, or_comm, or_self, or_add_and, and_le_r, or_lt}
+use Rattle.std.proofs.lemmas.Bool.{cases_lt, cases_eq}
+use Rattle.std.proofs.lemmas.Nat.{pow_pos, pow_below}
+use Rattle.std.proofs.lemmas.Nat.Bits.{bit_at_or, bit_at-zero, bit_at-pow_same, bit_at-pow_other, bit_at-lt, bit_at_above, same_from_bits}
 use Rattle.logic.specs.Sets.{Has, Within, mask, AllBelow}
 
 -- ---- unions
 
--- bit r of a union
-or_bit : (S V r : ℕ) → bit_or S V / 2 ^ r % 2 ≡ max (S / 2 ^ r % 2) (V / 2 ^ r % 2)
-or_bit S V r =
-    rw (or_shr S V r, or_step (S / 2 ^ r) (V / 2 ^ r)) (omega arith)
-
 pub has_left : (S V r : ℕ) → Has S r → Has (bit_or S V) r
 unfolding Has
-has_left S V r h = omega (arith, or_bit S V r)
+has_left S V r h = omega (arith, bit_at_or S V r, bit_at-lt V r)
 
 pub has_right : (S V r : ℕ) → Has V r → Has (bit_or S V) r
 unfolding Has
-has_right S V r h = omega (arith, or_bit S V r)
+has_right S V r h = omega (arith, bit_at_or S V r, bit_at-lt S r)
 
 pub has_split : (S V r : ℕ) → Has (bit_or S V) r → Has S r ⊎ Has V r
 unfolding Has
-has_split S V r h = go (ℕ_discrete (S / 2 ^ r % 2) 1)
-  where
-    go : Dec (S / 2 ^ r % 2 ≡ 1) → (S / 2 ^ r % 2 ≡ 1) ⊎ (V / 2 ^ r % 2 ≡ 1)
-    go (yes e) = inl e
-    go (no e) = inr (omega (arith, or_bit S V r))
+has_split S V r h = ⊎_elim (λ e. inl e) (λ no. inr (omega (arith, bit_at_or S V r, bit_at-lt S r))) (cases_eq (S / 2 ^ r % 2) 1)
 
 unfoldable pub dec_has : (S r : ℕ) → Dec (Has S r)
 unfolding Has ℕ_discrete
@@ -38,52 +29,27 @@ dec_has S r = ℕ_discrete (S / 2 ^ r % 2) 1
 
 pub has_zero : (r : ℕ) → Has zero r → ⊥
 unfolding Has
-has_zero r h = let e : zero / 2 ^ r ≡ zero = zero-div (2 ^ r) in omega arith
+has_zero r h = omega (arith, bit_at-zero r)
 
 pub has_self : (r : ℕ) → Has (2 ^ r) r
 unfolding Has
-has_self r = let e : 2 ^ r / 2 ^ r ≡ 1 = div_self (pow_pos r) in omega arith
-
--- bit r of a higher power of two is not set
-power_above : (r d : ℕ) → 2 ^ (suc d + r) / 2 ^ r ≡ 2 ^ d * 2
-power_above r d = ap (λ (n : ℕ). n / 2 ^ r) (pow-add 2 (suc d) r) ∙ shl-shr (2 ^ suc d) r ∙ pow-suc 2 d
+has_self = bit_at-pow_same
 
 pub has_only : (b r : ℕ) → Has (2 ^ b) r → b ≡ r
 unfolding Has
-has_only b r h = go (dec_lt b r) (dec_lt r b)
-  where
-    go : Dec (b < r) → Dec (r < b) → b ≡ r
-    go (yes l) d = let e : 2 ^ b / 2 ^ r ≡ zero = div-eq_of_lt (pow_below b r l) in absurd (omega arith)
-    go (no l) (yes m) =
-        let s : suc (b - suc r) + r ≡ b = omega arith in
-        let e : 2 ^ b / 2 ^ r ≡ 2 ^ (b - suc r) * 2 = rw s at (power_above r (b - suc r)) in
-        absurd (omega arith)
-    go (no l) (no m) = omega arith
+has_only b r h = ⊎_elim (λ e. e) (λ no. absurd (omega (arith, bit_at-pow_other b r (λ e. no (sym e))))) (cases_eq b r)
 
 -- a record in a set below 2 ^ m is below m
 pub has_below : (m S r : ℕ) → S < 2 ^ m → Has S r → r < m
 unfolding Has
-has_below m S r b h = go (dec_lt r m)
-  where
-    go : Dec (r < m) → r < m
-    go (yes l) = l
-    go (no l) =
-        let p : 2 ^ m ≤ 2 ^ r = pow-le-pow_right (omega arith) (omega arith) in
-        let e : S / 2 ^ r ≡ zero = div-eq_of_lt (omega arith) in absurd (omega arith)
+has_below m S r b h = ⊎_elim (λ l. l) (λ l. absurd (omega (arith, bit_at_above S m r b l))) (cases_lt r m)
 
 -- ---- inclusion
 
 pub or_assoc : (a b c : ℕ) → bit_or (bit_or a b) c ≡ bit_or a (bit_or b c)
-or_assoc =
-    bin_ind (λ (n : ℕ). (b c : ℕ) → bit_or (bit_or n b) c ≡ bit_or n (bit_or b c)) (λ b c. refl)
-    λ n ih b c.
-    let l : bit_or n b / 2 ≡ bit_or (n / 2) (b / 2) = or_shr n b 1 in
-    let r : bit_or b c / 2 ≡ bit_or (b / 2) (c / 2) = or_shr b c 1 in
-    let left : bit_or (bit_or n b) c ≡ bit_or (bit_or (n / 2) (b / 2)) (c / 2) * 2 + max (bit_or n b % 2) (c % 2) =
-    rw l at (or_step (bit_or n b) c) in
-    let right : bit_or n (bit_or b c) ≡ bit_or (n / 2) (bit_or (b / 2) (c / 2)) * 2 + max (n % 2) (bit_or b c % 2) =
-    rw r at (or_step n (bit_or b c)) in
-    omega (arith, left, right, ih (b / 2) (c / 2), or_step n b, or_step b c)
+or_assoc a b c =
+    same_from_bits (bit_or (bit_or a b) c) (bit_or a (bit_or b c))
+    (λ i. omega (arith, bit_at_or (bit_or a b) c i, bit_at_or a b i, bit_at_or a (bit_or b c) i, bit_at_or b c i))
 
 pub or_grows : (S V : ℕ) → S ≤ bit_or S V
 or_grows S V = omega (arith, or_add_and S V, and_le_r S V)

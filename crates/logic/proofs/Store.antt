@@ -6,7 +6,8 @@ use Rattle.std.proofs.lemmas.List.{get_or_append_left, get_or_push, length_push}
 use Rattle.logic.specs.Sets.{AllBelow, mask}
 use Rattle.logic.specs.Rules.{Rule, Rules, rule, none, more, Record, Book, blank, head_of, bodies_of, WellFormed, each, rule_at, rule_of}
 use Rattle.logic.specs.Charts.{Chart, Holds, AllHold, SetHolds}
-use Rattle.logic.specs.Store.{store, number_of, stores, numbers, book_of, RulesRight, RestartRulesRight, RulesSound}
+use Rattle.logic.specs.Store.{store, number_of, stores, numbers, book_of, Follow, Breaks, RulesRight, RestartRulesRight, RulesSound}
+use Rattle.logic.specs.Theorems.{Refuted}
 use Rattle.logic.proofs.Sets.{below_more, mask_lt, has_member, member_has, member_below}
 use Rattle.logic.proofs.Rules.{each_same, rule_of_is}
 use Rattle.logic.proofs.Sound.{all_hold, each_holds, goal_sound, restart_sound}
@@ -147,62 +148,53 @@ module _ (rules : Rules) (goal : Rule) where
       subst (AllHold chart w) in_force_are
       (all_hold chart w (rule_of book) (numbers [] rules) (λ b m. h b (member_below (length book) below_all m) (member_has m)))
 
-  small : mask (numbers [] rules) < 2 ^ length book
+  -- ---- what is said of the set and the record, said of the rules and the goal
+
+  abbrev set : ℕ
+  set = mask (numbers [] rules)
+
+  abbrev asked : ℕ
+  asked = number_of (stores [] rules) goal
+
+  small : set < 2 ^ length book
   small = mask_lt (length book) (numbers [] rules) below_all
+
+  goal_holds : (chart : Chart) (w : ℕ) → (SetHolds book chart w set → Holds chart w (rule_of book asked)) → AllHold chart w rules → Holds chart w goal
+  goal_holds chart w h all = subst (Holds chart w) goal_stored.is (h (to_set chart w all))
+
+  -- the only release is the first
+  goal_follows : (chart : Chart) → chart.size ≡ 1 → (SetHolds book chart 0 set → Holds chart 0 (rule_of book asked)) → Follow chart rules goal
+  goal_follows chart one h w l =
+      let first : w ≡ 0 = omega arith in
+      rw first (goal_holds chart 0 h)
+
+  breaks : (c : Refuted book set asked) → Breaks c.chart rules goal
+  breaks c = record {
+    release = c.release;
+    released = c.released;
+    rules_hold = from_set c.chart c.release c.in_force;
+    goal_fails = λ h. c.fails (subst (Holds c.chart c.release) (sym goal_stored.is) h);
+  }
 
 pub rules_right : RulesRight
 rules_right rules goal budget k =
-    let s = goal_stored rules goal in
-    let right = search_right (book_of rules goal) s.formed (mask (numbers [] rules)) (number_of (stores [] rules) goal) budget k (small rules goal) in (
-      λ t a chart law w l all. subst (Holds chart w) s.is (right.0 t a chart law w l (to_set rules goal chart w all)),
-      λ a.
-          let c = right.1 a in (
-            c.chart,
-            c.lawful,
-            record {
-              release = c.release;
-              released = c.released;
-              rules_hold = from_set rules goal c.chart c.release c.in_force;
-              goal_fails = λ h. c.fails (subst (Holds c.chart c.release) (sym s.is) h);
-            },
-          ),
+    let right = search_right (book rules goal) (goal_stored rules goal).formed (set rules goal) (asked rules goal) budget k (small rules goal) in (
+      λ t a chart law w l. goal_holds rules goal chart w (right.0 t a chart law w l),
+      λ a. let c = right.1 a in (c.chart, c.lawful, breaks rules goal c),
     )
 
 pub restart_rules_right : RestartRulesRight
 restart_rules_right rules goal budget k =
-    let s = goal_stored rules goal in
-    let right = restart_search_right (book_of rules goal) s.formed (mask (numbers [] rules)) (number_of (stores [] rules) goal) budget k (small rules goal) in (
-      λ t a chart law one w l all.
-          let e : w ≡ 0 = omega arith in
-          let h : AllHold chart 0 rules = subst (λ (v : ℕ). AllHold chart v rules) e all in
-          subst (λ (v : ℕ). Holds chart v goal) (sym e) (subst (Holds chart 0) s.is (right.0 t a chart law one (to_set rules goal chart 0 h))),
-      λ a.
-          let c = (right.1 a).0 in (
-            c.chart,
-            c.lawful,
-            (right.1 a).1,
-            record {
-              release = c.release;
-              released = c.released;
-              rules_hold = from_set rules goal c.chart c.release c.in_force;
-              goal_fails = λ h. c.fails (subst (Holds c.chart c.release) (sym s.is) h);
-            },
-          ),
+    let right = restart_search_right (book rules goal) (goal_stored rules goal).formed (set rules goal) (asked rules goal) budget k (small rules goal) in (
+      λ t a chart law one. goal_follows rules goal chart one (right.0 t a chart law one),
+      λ a. let (c, one) = right.1 a in (c.chart, c.lawful, one, breaks rules goal c),
     )
 
 pub rules_sound : RulesSound
 rules_sound = record {
-  ever = λ rules goal tree chart law w l all.
-      let s = goal_stored rules goal in
-      subst (Holds chart w) s.is
-      (goal_sound (book_of rules goal) s.formed (mask (numbers [] rules)) (number_of (stores [] rules) goal) tree chart law w l
-      (to_set rules goal chart w all));
-  now = λ rules goal tree chart law one w l all.
-      let s = goal_stored rules goal in
-      let e : w ≡ 0 = omega arith in
-      let h : AllHold chart 0 rules = subst (λ (v : ℕ). AllHold chart v rules) e all in
-      subst (λ (v : ℕ). Holds chart v goal) (sym e)
-      (subst (Holds chart 0) s.is
-      (restart_sound (book_of rules goal) s.formed (mask (numbers [] rules)) (number_of (stores [] rules) goal) tree chart law one
-      (to_set rules goal chart 0 h)));
+  ever = λ rules goal tree chart law w l.
+      goal_holds rules goal chart w (goal_sound (book rules goal) (goal_stored rules goal).formed (set rules goal) (asked rules goal) tree chart law w l);
+  now = λ rules goal tree chart law one.
+      goal_follows rules goal chart one
+      (restart_sound (book rules goal) (goal_stored rules goal).formed (set rules goal) (asked rules goal) tree chart law one);
 }

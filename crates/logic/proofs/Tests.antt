@@ -1,6 +1,6 @@
 -- Boolean tests: decisions, conjunctions, a test at some number below n, a test at each member of a list.
 use Rattle.std.proofs.Common.{◌≡◌, ℕ, zero, suc, ◌+◌, ◌<◌, ◌≤◌, Bool, true, false, ◌&&◌, ◌||◌, T, ◌⊎◌, List, [], ◌∷◌, sym, refl, subst, inl, inr, ⊎_elim, zero-le, not-suc-le-zero, arith}
-use native.Mathlib.Decide.{ℕ_discrete}
+use Rattle.std.proofs.lemmas.Bool.{cases_eq}
 use Rattle.logic.proofs.Sets.{Member, first, later}
 
 abbrev pub is_yes : {A : Type 0} → Dec A → Bool
@@ -43,6 +43,21 @@ pub or_cases : (a b : Bool) → T (a || b) → T a ⊎ T b
 or_cases true b t = inl tt
 or_cases false b t = inr t
 
+-- two decisions at once
+pub yes_both : {A B : Type 0} (d : Dec A) (e : Dec B) → A → B → T (is_yes d && is_yes e)
+yes_both d e a b = both (is_yes d) (is_yes e) (to_yes d a) (to_yes e b)
+
+pub both_yes : {A B : Type 0} (d : Dec A) (e : Dec B) → T (is_yes d && is_yes e) → A × B
+both_yes d e t = (from_yes d (and_left (is_yes d) (is_yes e) t), from_yes e (and_right (is_yes d) (is_yes e) t))
+
+-- of each number one or the other is true: then the one of some number below n, or the other of all
+pub found_or_all : (n : ℕ) (A B : ℕ → Type 0) → ((r : ℕ) → A r ⊎ B r) → ((r : ℕ) × (r < n) × A r) ⊎ ((r : ℕ) → r < n → B r)
+found_or_all zero A B d = inr (λ r l. absurd (not-suc-le-zero l))
+found_or_all (suc n) A B d =
+    ⊎_elim (λ a. inl (n, omega arith, a))
+    (λ b. ⊎_elim (λ i. inl (i.0, omega (arith, i.1), i.2))
+    (λ all. inr (λ r l. ⊎_elim (λ e. subst B (sym e) b) (λ no. all r (omega arith)) (cases_eq r n))) (found_or_all n A B d)) (d n)
+
 -- the test passes at some number below n
 pub some_below : ℕ → (ℕ → Bool) → Bool
 some_below zero f = false
@@ -57,40 +72,22 @@ some_found (suc n) f t =
 pub some_at : (n : ℕ) (f : ℕ → Bool) (r : ℕ) → r < n → T (f r) → T (some_below n f)
 unfolding some_below
 some_at zero f r l t = absurd (not-suc-le-zero l)
-some_at (suc n) f r l t = go (ℕ_discrete r n) (some_at n f r)
-  where
-    go : Dec (r ≡ n) → (r < n → T (f r) → T (some_below n f)) → T (f n || some_below n f)
-    go (yes e) k = or_left (f n) (some_below n f) (subst (λ (i : ℕ). T (f i)) e t)
-    go (no e) k = or_right (f n) (some_below n f) (k (omega arith) t)
+some_at (suc n) f r l t =
+    ⊎_elim (λ e. or_left (f n) (some_below n f) (subst (λ (i : ℕ). T (f i)) e t))
+    (λ no. or_right (f n) (some_below n f) (some_at n f r (omega arith) t)) (cases_eq r n)
 
 -- the test passes at each member of the list
-pub all_of : (ℕ → Bool) → List ℕ → Bool
+abbrev pub all_of : (ℕ → Bool) → List ℕ → Bool
 all_of f [] = true
 all_of f (b ∷ bs) = f b && all_of f bs
 
-pub all_nil : (f : ℕ → Bool) → T (all_of f [])
-unfolding all_of
-all_nil f = tt
-
-pub all_cons : (f : ℕ → Bool) (b : ℕ) (bs : List ℕ) → T (f b) → T (all_of f bs) → T (all_of f (b ∷ bs))
-unfolding all_of
-all_cons f b bs s t = both (f b) (all_of f bs) s t
-
-pub all_head : (f : ℕ → Bool) (b : ℕ) (bs : List ℕ) → T (all_of f (b ∷ bs)) → T (f b)
-unfolding all_of
-all_head f b bs t = and_left (f b) (all_of f bs) t
-
-pub all_tail : (f : ℕ → Bool) (b : ℕ) (bs : List ℕ) → T (all_of f (b ∷ bs)) → T (all_of f bs)
-unfolding all_of
-all_tail f b bs t = and_right (f b) (all_of f bs) t
-
 pub all_map : (f g : ℕ → Bool) → ((b : ℕ) → T (f b) → T (g b)) → (bs : List ℕ) → T (all_of f bs) → T (all_of g bs)
-all_map f g k [] t = all_nil g
-all_map f g k (b ∷ bs) t = all_cons g b bs (k b (all_head f b bs t)) (all_map f g k bs (all_tail f b bs t))
+all_map f g k [] t = tt
+all_map f g k (b ∷ bs) t = both (g b) (all_of g bs) (k b (and_left (f b) (all_of f bs) t)) (all_map f g k bs (and_right (f b) (all_of f bs) t))
 
 pub all_from : (f : ℕ → Bool) (bs : List ℕ) → ((b : ℕ) → Member b bs → T (f b)) → T (all_of f bs)
-all_from f [] k = all_nil f
-all_from f (b ∷ bs) k = all_cons f b bs (k b first) (all_from f bs (λ c m. k c (later m)))
+all_from f [] k = tt
+all_from f (b ∷ bs) k = both (f b) (all_of f bs) (k b first) (all_from f bs (λ c m. k c (later m)))
 
 -- ---- counting
 
@@ -130,11 +127,8 @@ same_or_more zero f g k = inl (λ i l t. absurd (not-suc-le-zero l))
 same_or_more (suc n) f g k = go (dec_T (f n)) (dec_T (g n)) (same_or_more n f g k)
   where
     extend : (T (g n) → T (f n)) → ((i : ℕ) → i < n → T (g i) → T (f i)) → (i : ℕ) → i < suc n → T (g i) → T (f i)
-    extend at same i l t = by (ℕ_discrete i n)
-      where
-        by : Dec (i ≡ n) → T (f i)
-        by (yes e) = subst (λ (j : ℕ). T (f j)) (sym e) (at (subst (λ (j : ℕ). T (g j)) e t))
-        by (no e) = same i (omega arith) t
+    extend at same i l t =
+        ⊎_elim (λ e. subst (λ (j : ℕ). T (f j)) (sym e) (at (subst (λ (j : ℕ). T (g j)) e t))) (λ no. same i (omega arith) t) (cases_eq i n)
 
     one : (b : Bool) → T b → bit b ≡ 1
     one true t = refl

@@ -3,6 +3,9 @@ use Rattle.std.proofs.Common.{◌≡◌, ◌⊎◌, List, [], ◌∷◌, refl, a
 use native.Mathlib.Decide.{ℕ_discrete}
 use Rattle.logic.specs.Search.{Query, On, here, there}
 
+pub nothing_on : {q : Query} → On q [] → ⊥
+nothing_on o = elim o [ ]
+
 -- an entry of a way is its first, or is on the rest
 pub on_cases : {p q : Query} {way : List Query} → On p (q ∷ way) → (p ≡ q) ⊎ On p way
 on_cases here = inl refl
@@ -22,7 +25,7 @@ same_query p q = go (ℕ_discrete p.in_force q.in_force) (ℕ_discrete p.name q.
 
 unfoldable pub dec_on : (q : Query) (way : List Query) → Dec (On q way)
 unfolding same_query
-dec_on q [] = no (λ o. elim o [ ])
+dec_on q [] = no nothing_on
 dec_on q (p ∷ way) = go (same_query q p) (dec_on q way)
   where
     go : Dec (q ≡ p) → Dec (On q way) → Dec (On q (p ∷ way))

@@ -1,7 +1,12 @@
--- What holds of each element of two lists holds of each of the lists put together.
-use Rattle.std.proofs.Common.{List, ◌++◌}
-use Rattle.std.specs.List.{AllByRecursion}
-use Rattle.std.proofs.lemmas.List.Elements.{All-append, All-from_recursion, recursion_from_All}
+-- What holds of each element of two lists put together holds of each of the first, and of each of the second.
+use Rattle.std.proofs.Common.{List, ◌++◌, length, sym}
+use lib.Seq.{take-append_seam, drop-append_seam}
+use Rattle.std.specs.List.{All}
+use Rattle.std.proofs.lemmas.List.Elements.{All-same, All-take, All-drop}
 
-pub all_append : {X : Type 0} (P : X → Type 0) (xs ys : List X) → AllByRecursion P xs → AllByRecursion P ys → AllByRecursion P (xs ++ ys)
-all_append P xs ys h k = recursion_from_All P (xs ++ ys) (All-append P xs ys (All-from_recursion P xs h) (All-from_recursion P ys k))
+module _ {X : Type 0} (P : X → Type 0) (xs ys : List X) where
+  pub all_left : All P (xs ++ ys) → All P xs
+  all_left h = All-same P xs _ (sym (take-append_seam xs ys)) (All-take P (length xs) (xs ++ ys) h)
+
+  pub all_right : All P (xs ++ ys) → All P ys
+  all_right h = All-same P ys _ (sym (drop-append_seam xs ys)) (All-drop P (length xs) (xs ++ ys) h)

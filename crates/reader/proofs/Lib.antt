@@ -4,7 +4,6 @@ pub mod CodeHeads
 pub mod CodeLemmas
 pub mod CodePrint
 pub mod CodeUnique
-pub mod FewBodies
 pub mod Heads
 pub mod Keyed
 pub mod LexUnique

@@ -1,7 +1,8 @@
 -- What a form's own laws say of what bytes are read as.
-use Rattle.std.proofs.Common.{◌≡◌, ℕ, List, [], ◌∷◌, ◌++◌, Ok, Err, Result, sym, refl, ap, ◌∙◌, subst, MatchResult}
-use Rattle.std.specs.List.{AllByRecursion}
-use Rattle.reader.proofs.AllLists.{all_append}
+use Rattle.std.proofs.Common.{◌≡◌, ℕ, Ok, Err, Result, sym, refl, ap, ◌∙◌, subst, MatchResult}
+use Rattle.std.specs.List.{All}
+use Rattle.std.proofs.lemmas.List.Elements.{All-nil, All-cons, All-head, All-tail, All-append, All-weaker}
+use Rattle.reader.proofs.AllLists.{all_left, all_right}
 use Rattle.reader.specs.declared.fault.Reason.{Reason}
 use Rattle.reader.specs.declared.fault.ReaderFault.{ReaderFault}
 use Rattle.reader.specs.declared.outline.Outline.{Outline}
@@ -11,10 +12,6 @@ use Rattle.reader.specs.Readings.{ReadAs, accepted, refused}
 use Rattle.reader.specs.Tree.{Rule, Rules, rule, none, ◌▸◌, places, places_all}
 use Rattle.reader.specs.Written.{Reading, reads, WrittenBodies, no_body, body, Mention, mentions, mentions_all, IsOutline, Outlined, KeyAt}
 use Rattle.reader.proofs.Keyed.{outline_keyed}
-
-all_split : (P : ℕ → Type 0) (xs ys : List ℕ) → AllByRecursion P (xs ++ ys) → AllByRecursion P xs × AllByRecursion P ys
-all_split P [] ys h = (tt, h)
-all_split P (x ∷ xs) ys h = let e = all_split P xs ys h.1 in ((h.0, e.0), e.1)
 
 module _ {K : Type 0} (key : ℕ → K) (Reads : Rule → Type 0) (Refused : Reason → ℕ → Type 0) where
   abbrev OneReading : Type 0
@@ -49,20 +46,19 @@ module _ {K : Type 0} (key : ℕ → K) (Reads : Rule → Type 0) (Refused : Rea
   Stands P m = P m.place × (m.key ≡ key m.place)
 
   mutual
-    stands : (P : ℕ → Type 0) (t : Rule) → AllByRecursion P (places t) → AllByRecursion (Stands P) (mentions (keyed key t))
-    stands P (rule p ts) h = ((h.0, refl), all_stand P ts no_body h.1 tt)
+    stands : (P : ℕ → Type 0) (t : Rule) → All P (places t) → All (Stands P) (mentions (keyed key t))
+    stands P (rule p ts) h =
+        All-cons (Stands P) _ _ (All-head P p (places_all ts) h, refl) (all_stand P ts no_body (All-tail P p (places_all ts) h) (All-nil _))
 
-    all_stand : (P : ℕ → Type 0) (ts : Rules) (ws : WrittenBodies K) → AllByRecursion P (places_all ts) → AllByRecursion (Stands P) (mentions_all ws) → AllByRecursion (Stands P) (mentions_all (keyed_all key ts ws))
+    all_stand : (P : ℕ → Type 0) (ts : Rules) (ws : WrittenBodies K) → All P (places_all ts) → All (Stands P) (mentions_all ws) → All (Stands P) (mentions_all (keyed_all key ts ws))
     all_stand P none ws h w = w
     all_stand P (ts ▸ t) ws h w =
-        let e = all_split P (places_all ts) (places t) h in
-        all_stand P ts (body (keyed key t) ws) e.0 (all_append (Stands P) (mentions (keyed key t)) (mentions_all ws) (stands P t e.1) w)
-
-  keys_are : (P : ℕ → Type 0) (p : ℕ) (k : K) → (P p → k ≡ key p) → (ms : List (Mention K)) → AllByRecursion (Stands P) ms → AllByRecursion (λ m. m.place ≡ p → m.key ≡ k) ms
-  keys_are P p k is [] h = tt
-  keys_are P p k is (m ∷ ms) h = ((λ e. h.0.1 ∙ ap key e ∙ sym (is (subst P e h.0.0))), keys_are P p k is ms h.1)
+        let front = all_left P (places_all ts) (places t) h in
+        let last = stands P t (all_right P (places_all ts) (places t) h) in
+        all_stand P ts (body (keyed key t) ws) front (All-append (Stands P) (mentions (keyed key t)) (mentions_all ws) last w)
 
   -- k is the key at p, if the places of heads have a property by which it is
-  pub key_at : (P : ℕ → Type 0) → ((t : Rule) → Reads t → AllByRecursion P (places t)) → (x : Reading K) → ReadAs key Reads Refused x → (p : ℕ) (k : K) → (P p → k ≡ key p) → KeyAt x p k
-  key_at P all x (accepted {t = t} r) p k is = keys_are P p k is (mentions (keyed key t)) (stands P t (all t r))
+  pub key_at : (P : ℕ → Type 0) → ((t : Rule) → Reads t → All P (places t)) → (x : Reading K) → ReadAs key Reads Refused x → (p : ℕ) (k : K) → (P p → k ≡ key p) → KeyAt x p k
+  key_at P all x (accepted {t = t} r) p k is =
+      All-weaker (Stands P) (λ m. m.place ≡ p → m.key ≡ k) (λ m here e. here.1 ∙ ap key e ∙ sym (is (subst P e here.0))) _ (stands P t (all t r))
   key_at P all x (refused r) p k is = tt

@@ -1,5 +1,5 @@
 -- What the text reader's moves do to what it has read.
-use Rattle.std.proofs.Common.{◌≡◌, ℕ, suc, ◌+◌, ◌-◌, ◌*◌, ◌<◌, ◌≤◌, Bool, true, false, cond, List, [], ◌∷◌, ◌++◌, length, sym, refl, ap, ◌∙◌, subst, append_assoc, append-nil, add-zero, arith}
+use Rattle.std.proofs.Common.{◌≡◌, ℕ, suc, ◌+◌, ◌-◌, ◌*◌, ◌<◌, ◌≤◌, ◌≢◌, Bool, true, false, List, [], ◌∷◌, ◌++◌, length, sym, refl, ap, ◌∙◌, subst, append_assoc, append-nil, add-zero, arith}
 use Rattle.reader.specs.declared.fault.Reason.{Reason}
 use Rattle.reader.specs.declared.fault.Reason.TheVariants.{Misplaced}
 use denote.Enum.Bare.{sameb, same_true, same_false}
@@ -11,11 +11,10 @@ use Rattle.reader.specs.declared.outline.End.{End}
 use Rattle.reader.specs.declared.outline.Outline.{Outline}
 use Rattle.reader.specs.declared.text.TextReader.{TextReader}
 use Rattle.reader.specs.Lexemes.{Is, Lexed}
-use Rattle.reader.specs.LexTotal.{end_within}
-use Rattle.reader.specs.Limits.{deepest, most_bodies, most_heads}
+use Rattle.reader.specs.Limits.{deepest, most_bodies}
 use Rattle.reader.specs.Outlines.{mentions, ended}
 use Rattle.reader.specs.Text.{Follows, IsRule, bare, ruled, Bodies, one, another, IsBody, name, bracket, Stops, BadRule, first, later, BadBody, within, unclosed}
-use Rattle.reader.specs.TextSteps.{input, Adds, AddsAll, Sound, Fresh, ReadHead, ReadRule, ReadBody}
+use Rattle.reader.specs.TextSteps.{input, Adds, AddsAll, Fresh, Advanced, ReadHead, ReadRule, ReadBody}
 use Rattle.reader.specs.Tree.{Rule, Rules, rule, none, ◌▸◌, count, size_all, places, places_all, ends, ends_all}
 
 -- a word or mark begins within the input
@@ -53,80 +52,48 @@ is_some bs Finish s e t i = absurd t
 pub takes : (bs : List ℕ) (k : Token) → Solid k → (l : Lexeme) → l.token ≡ k → Lexed bs l → l.start < l.end
 takes bs k t l e i = is_some bs k l.start l.end t (subst (λ x. Is bs x l.start l.end) e i)
 
--- the next word or mark of the reader takes some bytes of the input
-pub record Takes (r : TextReader) : Type 0 where
-  pub some : r.next.start < r.next.end
-  pub within : r.next.end ≤ length (input r)
+-- the next word or mark of the reader takes some bytes
+pub takes_next : (r : TextReader) (k : Token) → Solid k → r.next.token ≡ k → r.next.start < r.next.end
+takes_next r k t is = takes (input r) k t r.next is r.lexed
 
-pub takes_next : (r : TextReader) (k : Token) → Solid k → Sound r → r.next.token ≡ k → Takes r
-takes_next r k t s is = record { some = takes (input r) k t r.next is s.next; within = end_within (input r) r.next.token r.next.start r.next.end s.next }
-
--- the reader has gone on by one word or mark
-pub record Advanced (r a : TextReader) : Type 0 where
-  pub same : input a ≡ input r
-  pub outline : a.outline ≡ r.outline
-  pub next : Follows (input r) r.next a.next
-
-pub advanced_fresh : (r a : TextReader) → Sound r → 2 * r.outline.mentioned ≤ r.next.start + 1 → Takes r → Advanced r a → Fresh a
-advanced_fresh r a s few t adv = record {
-  sound = record {
-    short = rw adv.same s.short;
-    next = rw adv.same adv.next.what;
-    closed = rw adv.outline s.closed;
-  };
-  few = rw adv.outline (omega (arith, adv.next.from, t.some));
-}
+pub advanced_fresh : (r a : TextReader) → 2 * r.outline.mentioned ≤ r.next.start + 1 → r.next.start < r.next.end → Advanced r a → Fresh a
+advanced_fresh r a few t adv = rw adv.outline (omega (arith, adv.next.from, t))
 
 -- a head was read
-pub after_head : (n : ℕ) (r e : TextReader) → Fresh r → input e ≡ input r → ReadHead n r e → Sound e × (2 * e.outline.mentioned ≤ e.next.start + 1)
-after_head n r e f same h =
-    let t = takes_next r Name tt f.sound h.named in (
-      record {
-        short = rw same f.sound.short;
-        next = rw same h.follows.what;
-        closed = omega (arith, f.sound.closed, h.mentioned, h.closed);
-      },
-      omega (arith, h.mentioned, f.few, t.some, h.follows.from),
-    )
+pub after_head : (n : ℕ) (r e : TextReader) → Fresh r → ReadHead n r e → 2 * e.outline.mentioned ≤ e.next.start + 1
+after_head n r e f h = omega (arith, h.mentioned, f, takes_next r Name tt h.named, h.follows.from)
 
 -- the bodies that the loop over them has read, from the reader e after the head up to the reader r:
--- n of them, and whether there is another
-pub data SoFar (d : ℕ) (e r : TextReader) (n : ℕ) (more : Bool) : Type 0 where
-  not_yet : r ≡ e → n ≡ 0 → (more ≡ true → e.next.token ≡ If) → (more ≡ false → e.next.token ≡ If → ⊥) → SoFar d e r n more
-  some : {b : Lexeme} {ts : Rules} → e.next.token ≡ If → Follows (input e) e.next b → Bodies (input e) d b ts r.next → n ≡ count ts → AddsAll ts e.outline r.outline → (more ≡ true → r.next.token ≡ Comma) → (more ≡ false → r.next.token ≡ Comma → ⊥) → SoFar d e r n more
+-- n of them, and what stands before another
+pub data SoFar (d : ℕ) (e r : TextReader) (n : ℕ) (link : Token) : Type 0 where
+  not_yet : r ≡ e → n ≡ 0 → link ≡ If → SoFar d e r n link
+  some : {b : Lexeme} {ts : Rules} → e.next.token ≡ If → Follows (input e) e.next b → Bodies (input e) d b ts r.next → n ≡ count ts → AddsAll ts e.outline r.outline → link ≡ Comma → SoFar d e r n link
 
-pub record Looping (d : ℕ) (e r : TextReader) (n : ℕ) (more : Bool) : Type 0 where
+pub record Looping (d : ℕ) (e r : TextReader) (n : ℕ) (link : Token) : Type 0 where
   pub same : input r ≡ input e
-  pub sound : Sound r
   pub few : 2 * r.outline.mentioned ≤ r.next.start + 1
   pub pending : r.outline.ended < r.outline.mentioned
-  pub so_far : SoFar d e r n more
+  pub so_far : SoFar d e r n link
 
 -- at most eight bodies
 pub bodies_few : {bs : List ℕ} {d : ℕ} {l m : Lexeme} {ts : Rules} → Bodies bs d l ts m → count ts ≤ most_bodies
 bodies_few (one b) = omega arith
 bodies_few (another bs c f few b) = few
 
-so_far_few : {d : ℕ} {e r : TextReader} {n : ℕ} {more : Bool} → SoFar d e r n more → n ≤ most_bodies
-so_far_few (not_yet is zero_is t f) = omega arith
-so_far_few (some i f bodies n_is adds t g) = let few = bodies_few bodies in omega arith
+so_far_few : {d : ℕ} {e r : TextReader} {n : ℕ} {link : Token} → SoFar d e r n link → n ≤ most_bodies
+so_far_few (not_yet is zero_is l) = omega arith
+so_far_few (some i f bodies n_is adds l) = let few = bodies_few bodies in omega arith
 
 -- where the loop goes on, `if` or a comma comes next
-pub loop_takes : (d : ℕ) (e r : TextReader) (n : ℕ) → Looping d e r n true → Takes r
-loop_takes d e r n l = go l.so_far
+pub loop_takes : (d : ℕ) (e r : TextReader) (n : ℕ) (link : Token) → Looping d e r n link → r.next.token ≡ link → r.next.start < r.next.end
+loop_takes d e r n link l on = go l.so_far
   where
-    go : SoFar d e r n true → Takes r
-    go (not_yet is zero_is t f) = takes_next r If tt l.sound (ap (λ x. x.next.token) is ∙ t refl)
-    go (some i f bodies n_is adds t g) = takes_next r Comma tt l.sound (t refl)
+    go : SoFar d e r n link → r.next.start < r.next.end
+    go (not_yet is zero_is t) = takes_next r If tt (on ∙ t)
+    go (some i f bodies n_is adds t) = takes_next r Comma tt (on ∙ t)
 
-pub loop_few : (d : ℕ) (e r : TextReader) (n : ℕ) (more : Bool) → Looping d e r n more → n ≤ most_bodies
-loop_few d e r n more l = so_far_few l.so_far
-
--- the outline has room for the end of a rule
-pub loop_room : (d : ℕ) (e r : TextReader) (n : ℕ) (more : Bool) → Looping d e r n more → r.outline.ended < most_heads
-loop_room d e r n more l =
-    let st = start_within _ _ _ _ l.sound.next in
-    omega (arith, l.few, l.pending, l.sound.short)
+pub loop_few : (d : ℕ) (e r : TextReader) (n : ℕ) (link : Token) → Looping d e r n link → n ≤ most_bodies
+loop_few d e r n link l = so_far_few l.so_far
 
 -- outlines with one rule more
 adds_one : (t : Rule) (o o' : Outline) → Adds t o o' → AddsAll (none ▸ t) o o'
@@ -150,38 +117,37 @@ adds_more ts t o₁ o₂ o₃ a b = record {
 }
 
 -- the loop has read one body more
-pub loop_again : (d : ℕ) (e r a b : TextReader) (n : ℕ) (more : Bool) → Looping d e r n true → Advanced r a → input b ≡ input a → ReadBody d a b → n < most_bodies → (more ≡ true → b.next.token ≡ Comma) → (more ≡ false → b.next.token ≡ Comma → ⊥) → Looping d e b (n + 1) more
-loop_again d e r a b n more l adv same_b body few yes_more no_more =
+pub loop_again : (d : ℕ) (e r a b : TextReader) (n : ℕ) (link : Token) → Looping d e r n link → r.next.token ≡ link → Advanced r a → ReadBody d a b → n < most_bodies → Looping d e b (n + 1) Comma
+loop_again d e r a b n link l on adv body few =
     let same_a : input a ≡ input e = adv.same ∙ l.same in
     let adds : Adds body.tree r.outline b.outline = subst (λ o. Adds body.tree o b.outline) adv.outline body.adds in
     let reads : IsBody (input e) d a.next body.tree b.next = subst (λ bs. IsBody bs d a.next body.tree b.next) same_a body.reads in
     let next : Follows (input e) r.next a.next = subst (λ bs. Follows bs r.next a.next) l.same adv.next in
     record {
-      same = same_b ∙ same_a;
-      sound = body.sound;
+      same = body.same ∙ same_a;
       few = body.few;
       pending = omega (arith, l.pending, adds.mentioned, adds.closed);
       so_far = go l.so_far adds reads next;
     }
   where
-    go : SoFar d e r n true → Adds body.tree r.outline b.outline → IsBody (input e) d a.next body.tree b.next → Follows (input e) r.next a.next → SoFar d e b (n + 1) more
-    go (not_yet is zero_is t f) adds reads next =
-        some (t refl) (subst (λ x. Follows (input e) x.next a.next) is next) (one reads) (omega arith) (adds_one _ _ _ (subst (λ x. Adds body.tree x.outline b.outline) is adds)) yes_more no_more
-    go (some {ts = ts} i f bodies n_is before t g) adds reads next =
-        some i f (another bodies (t refl) next (omega arith) reads) (omega arith) (adds_more ts _ _ _ _ before adds) yes_more no_more
+    go : SoFar d e r n link → Adds body.tree r.outline b.outline → IsBody (input e) d a.next body.tree b.next → Follows (input e) r.next a.next → SoFar d e b (n + 1) Comma
+    go (not_yet is zero_is t) adds reads next =
+        some (sym (ap (λ x. x.next.token) is) ∙ on ∙ t) (subst (λ x. Follows (input e) x.next a.next) is next) (one reads) (omega arith) (adds_one _ _ _ (subst (λ x. Adds body.tree x.outline b.outline) is adds)) refl
+    go (some {ts = ts} i f bodies n_is before t) adds reads next =
+        some i f (another bodies (on ∙ t) next (omega arith) reads) (omega arith) (adds_more ts _ _ _ _ before adds) refl
 
 -- a body offends
-pub loop_bad : (d : ℕ) (bs : List ℕ) (h : Lexeme) (e r a : TextReader) (n : ℕ) (x : Reason) (p : ℕ) → h.token ≡ Name → input e ≡ bs → Follows bs h e.next → Looping (suc d) e r n true → Advanced r a → BadBody (input a) (suc d) n a.next x p → BadRule bs d h x p
-loop_bad d bs h e r a n x p named same_e head l adv bad =
+pub loop_bad : (d : ℕ) (bs : List ℕ) (h : Lexeme) (e r a : TextReader) (n : ℕ) (link : Token) (x : Reason) (p : ℕ) → h.token ≡ Name → input e ≡ bs → Follows bs h e.next → Looping (suc d) e r n link → r.next.token ≡ link → Advanced r a → BadBody (input a) (suc d) n a.next x p → BadRule bs d h x p
+loop_bad d bs h e r a n link x p named same_e head l on adv bad =
     let bad' : BadBody bs (suc d) n a.next x p = subst (λ i. BadBody i (suc d) n a.next x p) (adv.same ∙ l.same ∙ same_e) bad in
     let next : Follows bs r.next a.next = subst (λ i. Follows i r.next a.next) (l.same ∙ same_e) adv.next in
     go l.so_far bad' next
   where
-    go : SoFar (suc d) e r n true → BadBody bs (suc d) n a.next x p → Follows bs r.next a.next → BadRule bs d h x p
-    go (not_yet is zero_is t f) bad next =
-        first named head (t refl) (subst (λ y. Follows bs y.next a.next) is next) (subst (λ k. BadBody bs (suc d) k a.next x p) zero_is bad)
-    go (some {b = b} {ts = ts} i f bodies n_is adds t g) bad next =
-        later named head i (subst (λ y. Follows y e.next b) same_e f) (subst (λ y. Bodies y (suc d) b ts r.next) same_e bodies) (t refl) next (subst (λ k. BadBody bs (suc d) k a.next x p) n_is bad)
+    go : SoFar (suc d) e r n link → BadBody bs (suc d) n a.next x p → Follows bs r.next a.next → BadRule bs d h x p
+    go (not_yet is zero_is t) bad next =
+        first named head (sym (ap (λ x. x.next.token) is) ∙ on ∙ t) (subst (λ y. Follows bs y.next a.next) is next) (subst (λ k. BadBody bs (suc d) k a.next x p) zero_is bad)
+    go (some {b = b} {ts = ts} i f bodies n_is adds t) bad next =
+        later named head i (subst (λ y. Follows y e.next b) same_e f) (subst (λ y. Bodies y (suc d) b ts r.next) same_e bodies) (on ∙ t) next (subst (λ k. BadBody bs (suc d) k a.next x p) n_is bad)
 
 -- a rule with bodies goes on with a comma alone
 stops_many : {bs : List ℕ} {d : ℕ} {l m : Lexeme} {ts : Rules} (p : ℕ) (k : Token) → Bodies bs d l ts m → (k ≡ Comma → ⊥) → Stops (rule p ts) k
@@ -224,52 +190,39 @@ adds_name m r e o h x =
     adds_rule r.next.start 0 none r.outline e.outline e.outline o _ h.mentioned h.closed h.heads h.rules (adds_none e.outline) x.mentioned x.closed x.heads x.rules (ap (λ k. record { mention = k; bodies = 0 }) h.number)
 
 -- the loop is over, and the rule ends
-pub loop_over : (d m : ℕ) (s e r r' : TextReader) (n : ℕ) → ReadHead m s e → input e ≡ input s → Looping (suc d) e r n false → r'.bytes ≡ r.bytes → r'.next ≡ r.next → EndAdded m n r.outline r'.outline → ReadRule d s r'
-loop_over d m s e r r' n h same_e l bytes_are next_is x = go l.so_far
+pub loop_over : (d m : ℕ) (s e r r' : TextReader) (n : ℕ) (link : Token) → ReadHead m s e → Looping (suc d) e r n link → r.next.token ≢ link → r'.bytes ≡ r.bytes → r'.next ≡ r.next → EndAdded m n r.outline r'.outline → ReadRule d s r'
+loop_over d m s e r r' n link h l over bytes_are next_is x = go l.so_far
   where
-    sound' : Sound r'
-    sound' = record {
-      short = rw bytes_are l.sound.short;
-      next = rw (bytes_are, next_is) l.sound.next;
-      closed = omega (arith, x.mentioned, x.closed, l.pending);
-    }
+    same' : input r' ≡ input s
+    same' = ap (λ b. b.now) bytes_are ∙ l.same ∙ h.same
 
     few' : 2 * r'.outline.mentioned ≤ r'.next.start + 1
     few' = rw (x.mentioned, next_is) l.few
 
-    go : SoFar (suc d) e r n false → ReadRule d s r'
-    go (not_yet is zero_is t f) =
+    go : SoFar (suc d) e r n link → ReadRule d s r'
+    go (not_yet is zero_is t) =
         let here : r'.next ≡ e.next = next_is ∙ ap (λ y. y.next) is in
         record {
+          same = same';
           tree = rule s.next.start none;
           reads = rw here (bare h.named h.follows);
-          stops = rw here (f refl);
+          stops = rw here (λ more. over (ap (λ x. x.next.token) is ∙ more ∙ sym t));
           adds = adds_rule s.next.start n none s.outline e.outline e.outline r'.outline _ h.mentioned h.closed h.heads h.rules (adds_none e.outline) (x.mentioned ∙ ap (λ y. y.outline.mentioned) is) (x.closed ∙ ap (λ y. y.outline.ended + 1) is) (x.heads ∙ ap (λ y. mentions y.outline) is) (x.rules ∙ ap (λ y. ended y.outline ++ record { mention = m; bodies = n } ∷ []) is) ((λ i. record { mention = h.number i; bodies = zero_is i }));
-          sound = sound';
           few = few';
         }
-    go (some {b = b} {ts = ts} i f bodies n_is adds t g) =
+    go (some {b = b} {ts = ts} i f bodies n_is adds t) =
         record {
+          same = same';
           tree = rule s.next.start ts;
-          reads = rw next_is (ruled h.named h.follows i (subst (λ y. Follows y e.next b) same_e f) (subst (λ y. Bodies y (suc d) b ts r.next) same_e bodies));
-          stops = rw next_is (stops_many s.next.start r.next.token bodies (g refl));
+          reads = rw next_is (ruled h.named h.follows i (subst (λ y. Follows y e.next b) h.same f) (subst (λ y. Bodies y (suc d) b ts r.next) h.same bodies));
+          stops = rw next_is (stops_many s.next.start r.next.token bodies (λ more. over (more ∙ sym t)));
           adds = adds_rule s.next.start n ts s.outline e.outline r.outline r'.outline _ h.mentioned h.closed h.heads h.rules adds x.mentioned x.closed x.heads x.rules ((λ j. record { mention = h.number j; bodies = n_is j }));
-          sound = sound';
           few = few';
         }
-
--- what an answer to an equation says
-abbrev pub Says : Bool → Type 0 → Type 0
-Says r P = cond r P (P → ⊥)
-
-pub told : (P : Type 0) (r : Bool) → Says r P → (r ≡ true → P) × (r ≡ false → P → ⊥)
-told P true d = (λ _. d, λ e. absurd (let z : ◌≡◌ {A = ℕ} 0 1 = cc in omega arith))
-told P false d = (λ e. absurd (let z : ◌≡◌ {A = ℕ} 0 1 = cc in omega arith), λ _. d)
 
 -- a comparison of two tokens answers whether they are equal
-pub tokens_say : (r : Bool) (a b : Token) → r ≡ sameb the_type a b → Says r (a ≡ b)
-tokens_say true a b is = same_true the_type tt a b (sym is)
-tokens_say false a b is = same_false the_type a b (sym is)
+pub tokens_told : (r : Bool) (a b : Token) → r ≡ sameb the_type a b → (r ≡ true → a ≡ b) × (r ≡ false → a ≡ b → ⊥)
+tokens_told r a b is = (λ yes. same_true the_type tt a b (sym is ∙ yes), λ no. same_false the_type a b (sym is ∙ no))
 
 -- the rule in brackets offends
 pub body_bad : (rest n : ℕ) (s a : TextReader) (x : Reason) (p : ℕ) → 0 < rest → rest < deepest → n < most_bodies → s.next.token ≡ Open → Advanced s a → BadRule (input a) (deepest - (rest - 1)) a.next x p → BadBody (input s) (suc (deepest - rest)) n s.next x p
@@ -286,46 +239,27 @@ body_unclosed rest n s a b below most few is adv r open_still =
     unclosed (omega arith) few is adv.next (subst (λ i. IsRule i (suc (deepest - rest)) a.next r.tree b.next) adv.same reads) r.stops open_still
 
 -- the rule in brackets is closed
-pub body_closed : (rest : ℕ) (s a b z : TextReader) → 0 < rest → rest < deepest → s.next.token ≡ Open → Advanced s a → input b ≡ input a → ReadRule (deepest - (rest - 1)) a b → b.next.token ≡ Close → Advanced b z → ReadBody (suc (deepest - rest)) s z
-body_closed rest s a b z below most is adv same_b r closed adv_z =
+pub body_closed : (rest : ℕ) (s a b z : TextReader) → 0 < rest → rest < deepest → s.next.token ≡ Open → Advanced s a → ReadRule (deepest - (rest - 1)) a b → b.next.token ≡ Close → Advanced b z → ReadBody (suc (deepest - rest)) s z
+body_closed rest s a b z below most is adv r closed adv_z =
     let e : deepest - (rest - 1) ≡ suc (deepest - rest) = omega arith in
     let reads : IsRule (input a) (suc (deepest - rest)) a.next r.tree b.next = subst (λ d. IsRule (input a) d a.next r.tree b.next) e r.reads in
-    let t = takes_next b Close tt r.sound closed in
-    let fresh = advanced_fresh b z r.sound r.few t adv_z in
+    let fresh = advanced_fresh b z r.few (takes_next b Close tt closed) adv_z in
     record {
+      same = adv_z.same ∙ r.same ∙ adv.same;
       tree = r.tree;
-      reads = bracket (omega arith) is adv.next (subst (λ i. IsRule i (suc (deepest - rest)) a.next r.tree b.next) adv.same reads) closed (subst (λ i. Follows i b.next z.next) (same_b ∙ adv.same) adv_z.next);
+      reads = bracket (omega arith) is adv.next (subst (λ i. IsRule i (suc (deepest - rest)) a.next r.tree b.next) adv.same reads) closed (subst (λ i. Follows i b.next z.next) (r.same ∙ adv.same) adv_z.next);
       adds = subst (λ o. Adds r.tree s.outline o) (sym adv_z.outline) (subst (λ o. Adds r.tree o b.outline) adv.outline r.adds);
-      sound = fresh.sound;
-      few = omega (arith, fresh.few);
+      few = omega (arith, fresh);
     }
 
 -- a body that is a name
-pub body_name : (rest m : ℕ) (s e r' : TextReader) → 0 < rest → rest < deepest → Fresh s → input e ≡ input s → ReadHead m s e → r'.bytes ≡ e.bytes → r'.next ≡ e.next → EndAdded m 0 e.outline r'.outline → ReadBody (suc (deepest - rest)) s r'
-body_name rest m s e r' below most f same h bytes_are next_is x =
-    let after = after_head m s e f same h in
+pub body_name : (rest m : ℕ) (s e r' : TextReader) → 0 < rest → rest < deepest → Fresh s → ReadHead m s e → r'.bytes ≡ e.bytes → r'.next ≡ e.next → EndAdded m 0 e.outline r'.outline → ReadBody (suc (deepest - rest)) s r'
+body_name rest m s e r' below most f h bytes_are next_is x =
     let deep : suc (deepest - rest) ≤ deepest = omega arith in
     record {
+      same = ap (λ b. b.now) bytes_are ∙ h.same;
       tree = rule s.next.start none;
       reads = rw next_is (name deep h.named h.follows);
       adds = adds_name m s e r'.outline h x;
-      sound = record {
-        short = rw bytes_are after.0.short;
-        next = rw (bytes_are, next_is) after.0.next;
-        closed = omega (arith, x.mentioned, x.closed, h.mentioned, h.closed, f.sound.closed);
-      };
-      few = rw (x.mentioned, next_is) after.1;
-    }
-
--- before the first body
-pub loop_starts : (d m : ℕ) (s e : TextReader) (more : Bool) → Fresh s → input e ≡ input s → ReadHead m s e → Says more (e.next.token ≡ If) → Looping d e e 0 more
-loop_starts d m s e more f same h says =
-    let after = after_head m s e f same h in
-    let t = told (e.next.token ≡ If) more says in
-    record {
-      same = refl;
-      sound = after.0;
-      few = after.1;
-      pending = omega (arith, h.mentioned, h.closed, f.sound.closed);
-      so_far = not_yet refl refl t.0 t.1;
+      few = rw (x.mentioned, next_is) (after_head m s e f h);
     }

@@ -1,6 +1,6 @@
 -- Feature codes: which are the same, and which one stands at a place.
 use Rattle.std.specs.Prelude.{ℕ, ◌+◌, ◌*◌, ◌≤◌, Bool, ◌&&◌, List, length, ◌==◌, slice_index}
-use Rattle.std.specs.List.{AllByRecursion}
+use Rattle.std.specs.List.{All}
 use Rattle.reader.specs.declared.feature_code.FeatureCode.{FeatureCode}
 use Rattle.reader.specs.Codes.{Reads}
 use Rattle.reader.specs.Tree.{Rule, places}
@@ -23,4 +23,4 @@ Whole bs p = p + 3 ≤ length bs
 
 -- a whole feature code stands at the place of each head
 abbrev pub HeadsWhole : Type 0
-HeadsWhole = (bs : List ℕ) (t : Rule) → Reads bs t → AllByRecursion (Whole bs) (places t)
+HeadsWhole = (bs : List ℕ) (t : Rule) → Reads bs t → All (Whole bs) (places t)

@@ -3,6 +3,7 @@ use Rattle.std.specs.Prelude.{◌≡◌, ℕ, zero, suc, ◌+◌, ◌-◌, ◌<�
 use Rattle.std.proofs.Common.{sym, ap, subst, ◌∙◌, arith, eqb-true, eq-eqb}
 use Rattle.std.proofs.Math.Decide.{ℕ_discrete, dec_le}
 use Rattle.std.proofs.lemmas.Bool.{both_ways}
+use Rattle.std.proofs.Props.{props}
 use Rattle.reader.specs.declared.lexer.Token.{Token}
 use Rattle.reader.specs.declared.lexer.Token.TheVariants.{Open, Close, Comma, If, Name, Long, Stray, Finish}
 use Rattle.reader.specs.declared.lexer.Lexeme.{Lexeme}
@@ -101,6 +102,17 @@ end_within bs Name s e i = i.0.within
 end_within bs Long s e i = i.0.within
 end_within bs Stray s e i = omega (arith, i.0.within, i.1)
 end_within bs Finish s e i = omega (arith, i.0, i.1)
+
+-- what stands somewhere stands there in one way
+pub is_prop : (bs : List ℕ) (k : Token) (s e : ℕ) → IsProp (Is bs k s e)
+is_prop bs Open s e = Prim.hlevel props
+is_prop bs Close s e = Prim.hlevel props
+is_prop bs Comma s e = Prim.hlevel props
+is_prop bs If s e = Prim.hlevel props
+is_prop bs Name s e = Prim.hlevel props
+is_prop bs Long s e = Prim.hlevel props
+is_prop bs Stray s e = Prim.hlevel props
+is_prop bs Finish s e = Prim.hlevel props
 
 -- the kinds of words and marks by number
 abbrev ordinal : Token → ℕ

@@ -1,5 +1,5 @@
 -- The words and marks of the text form. A place counts bytes from 0.
-use Rattle.std.specs.Prelude.{◌≡◌, ℕ, ◌+◌, ◌<◌, ◌≤◌, Bool, true, false, cond, List, length, ◌==◌, nat_le, slice_index, slice_index_or}
+use Rattle.std.specs.Prelude.{◌≡◌, ℕ, ◌+◌, ◌<◌, ◌≤◌, Bool, true, false, cond, List, length, ◌==◌, nat_le, slice_index, ◌≢◌}
 use Rattle.reader.specs.declared.lexer.Token.{Token}
 use Rattle.reader.specs.declared.lexer.Token.TheVariants.{Open, Close, Comma, If, Name, Long, Stray, Finish}
 use Rattle.reader.specs.declared.lexer.Lexeme.{Lexeme}
@@ -41,10 +41,10 @@ SpellsIf bs s e = (e ≡ s + 2) × (slice_index bs s ≡ 105) × (slice_index bs
 pub record Unknown (bs : List ℕ) (s : ℕ) : Type 0 where
   pub within : s < length bs
   pub no_letter : letter (slice_index bs s) ≡ false
-  pub no_space : slice_index_or bs s 0 ≡ 32 → ⊥
-  pub no_open : slice_index_or bs s 0 ≡ 40 → ⊥
-  pub no_close : slice_index_or bs s 0 ≡ 41 → ⊥
-  pub no_comma : slice_index_or bs s 0 ≡ 44 → ⊥
+  pub no_space : slice_index bs s ≢ 32
+  pub no_open : slice_index bs s ≢ 40
+  pub no_close : slice_index bs s ≢ 41
+  pub no_comma : slice_index bs s ≢ 44
 
 -- what stands from s up to e
 abbrev pub Is : List ℕ → Token → ℕ → ℕ → Type 0
@@ -74,7 +74,7 @@ pub record Lexes (bs : List ℕ) (i : ℕ) (l : Lexeme) : Type 0 where
 -- a byte that is no mark and no space stands at s
 pub record Plain (bs : List ℕ) (s : ℕ) : Type 0 where
   pub within : s < length bs
-  pub no_space : slice_index_or bs s 0 ≡ 32 → ⊥
-  pub no_open : slice_index_or bs s 0 ≡ 40 → ⊥
-  pub no_close : slice_index_or bs s 0 ≡ 41 → ⊥
-  pub no_comma : slice_index_or bs s 0 ≡ 44 → ⊥
+  pub no_space : slice_index bs s ≢ 32
+  pub no_open : slice_index bs s ≢ 40
+  pub no_close : slice_index bs s ≢ 41
+  pub no_comma : slice_index bs s ≢ 44

@@ -1,7 +1,9 @@
 -- Names: when two are the same, and which one stands at a place of a text.
-use Rattle.std.specs.Prelude.{◌≡◌, ℕ, zero, suc, ◌-◌, min, Bool, true, false, cond, ◌&&◌, List, [], ◌∷◌, length, take, drop, ◌==◌, refl}
-use Rattle.std.proofs.Common.{ap, arith}
-use Rattle.std.specs.List.{AllByRecursion}
+use Rattle.std.specs.Prelude.{◌≡◌, ℕ, ◌-◌, min, Bool, List, ◌++◌, length, take, drop}
+use Rattle.std.proofs.Common.{arith, length-append, length-take, replicate}
+use Rattle.std.proofs.lemmas.List.{length-replicate}
+use Rattle.std.specs.List.{All, take_while}
+use Rattle.std.specs.Str.{bytes_eq}
 use Rattle.reader.specs.declared.lexer.Token.TheVariants.{Name as Naming}
 use Rattle.reader.specs.declared.name.Name.{Name}
 use Rattle.reader.specs.Lexemes.{wordly, Is}
@@ -9,30 +11,20 @@ use Rattle.reader.specs.Limits.{name_bytes}
 use Rattle.reader.specs.Text.{Reads}
 use Rattle.reader.specs.Tree.{Rule, places}
 
-abbrev pub equal_bytes : List ℕ → List ℕ → Bool
-equal_bytes [] [] = true
-equal_bytes [] (_ ∷ _) = false
-equal_bytes (_ ∷ _) [] = false
-equal_bytes (x ∷ xs) (y ∷ ys) = x == y && equal_bytes xs ys
-
 -- the bytes of a name
 abbrev pub text : Name → List ℕ
 text n = take n.len n.bytes
 
 -- two names are the same if they have the same bytes
 abbrev pub same_name : Name → Name → Bool
-same_name m n = equal_bytes (text m) (text n)
+same_name m n = bytes_eq (text m) (text n)
 
 -- n bytes: the first of these, and zeros behind them
 abbrev pub padded : ℕ → List ℕ → List ℕ
-padded zero xs = []
-padded (suc n) [] = 0 ∷ padded n []
-padded (suc n) (x ∷ xs) = x ∷ padded n xs
+padded n xs = take n xs ++ replicate (n - length xs) 0
 
 pub padded_length : (n : ℕ) (xs : List ℕ) → length (padded n xs) ≡ n
-padded_length zero xs = refl
-padded_length (suc n) [] = ap suc (padded_length n [])
-padded_length (suc n) (x ∷ xs) = ap suc (padded_length n xs)
+padded_length n xs = omega (arith, length-append (take n xs) (replicate (n - length xs) 0), length-take n xs, length-replicate {A = ℕ} (n - length xs) 0)
 
 -- the name of a word, of which the first 16 bytes count
 abbrev pub named : List ℕ → Name
@@ -40,8 +32,7 @@ named xs = record { len = min (length xs) name_bytes; bytes = padded name_bytes 
 
 -- the word that bytes begin with: as long as can be, and empty where they begin with none
 abbrev pub word : List ℕ → List ℕ
-word [] = []
-word (b ∷ bs) = cond (wordly b) (b ∷ word bs) []
+word = take_while wordly
 
 -- the name that stands at p
 abbrev pub name_at : List ℕ → ℕ → Name
@@ -53,7 +44,7 @@ Named bs p = (e : ℕ) × Is bs Naming p e
 
 -- each head of a text is a name
 abbrev pub HeadsNamed : Type 0
-HeadsNamed = (bs : List ℕ) (t : Rule) → Reads bs t → AllByRecursion (Named bs) (places t)
+HeadsNamed = (bs : List ℕ) (t : Rule) → Reads bs t → All (Named bs) (places t)
 
 -- the bytes of the name at p are those of the word that stands there
 abbrev pub NamesSpelt : Type 0

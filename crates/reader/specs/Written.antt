@@ -1,6 +1,6 @@
 -- Rules as written, over any kind of key.
 use Rattle.std.specs.Prelude.{◌≡◌, ℕ, suc, ◌+◌, Bool, List, [], ◌∷◌, ◌++◌, Ok, Err, Result}
-use Rattle.std.specs.List.{AllByRecursion}
+use Rattle.std.specs.List.{All}
 use Rattle.reader.specs.declared.fault.ReaderFault.{ReaderFault}
 use Rattle.reader.specs.declared.outline.End.{End}
 use Rattle.reader.specs.declared.outline.Outline.{Outline}
@@ -93,5 +93,5 @@ Outlined (unread u) (Err f) = u ≡ refusal f
 
 -- k is the key of each head at the place p
 abbrev pub KeyAt : {K : Type 0} → Reading K → ℕ → K → Type 0
-KeyAt (reads w) p k = AllByRecursion (λ m. m.place ≡ p → m.key ≡ k) (mentions w)
+KeyAt (reads w) p k = All (λ m. m.place ≡ p → m.key ≡ k) (mentions w)
 KeyAt (unread u) p k = Unit {0}

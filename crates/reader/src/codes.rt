@@ -1,15 +1,17 @@
 //! Reads a rule in codes.
 ghost use Rattle.std.specs.Prelude.{◌≡◌, ℕ, ◌+◌, ◌<◌, ◌≤◌, length, MatchResult};
+ghost use Rattle.arrayvec.specs.ArrayVec.{array_vec_len};
 ghost use Rattle.reader.specs.Limits.{rule_bytes};
-ghost use Rattle.reader.specs.Codes.{ReadsAs, Refused, Offends};
-ghost use Rattle.reader.specs.CodeSteps.{input, StandsAt, Sound, Ready};
+ghost use Rattle.reader.specs.Codes.{At, ReadsAs, Refused, Offends};
 
 use crate::fault::{ReaderFault, Reason};
-use crate::limits::{BODIES, DEPTH, RULE_BYTES};
+use crate::limits::{BODIES, DEPTH, check_size};
 use crate::outline::Outline;
+use arrayvec::ArrayVec;
 
 pub mod laws;
 
+// Kind bytes are numbers: the reader matches its own state together with the byte, and an enum would have to be made from it first.
 /// The kind byte that opens a rule.
 const OPEN: u8 = 1;
 /// The kind byte that closes the rule opened last.
@@ -32,44 +34,48 @@ enum State {
 }
 
 /// A rule that stands open: its head's mention, and how many bodies it has so far.
-#[derive(Clone, Copy)]
+#[derive(Clone, Copy, Default)]
 struct Open {
     mention: u16,
     bodies: u8,
 }
 
 /// A reader that has read the bytes before `place`, with the rules that stand open, the one opened last on top.
+// What it has read is no ghost field: a ghost field holds one fact of each value, and this fact carries the list of the open rules, which the field would have to find.
+// Each move counts the place itself, so that it can promise where the next byte stands.
 #[derive(Drop)]
 struct CodeReader<'a> {
+    // Read by the contracts alone.
     bytes: &'a [u8],
     place: usize,
     state: State,
-    stack: [Open; DEPTH],
-    depth: usize,
+    stack: ArrayVec<Open, DEPTH>,
     outline: Outline,
+    ghost short: { length bytes.now ≤ rule_bytes },
+    ghost within: { place ≤ length bytes.now },
 }
 
 impl<'a> CodeReader<'a> {
+    ghost use Rattle.reader.specs.CodeSteps.{InHead, input, Sound, Ready, Stepped};
+
     /// A reader that has read nothing.
     fn new(bytes: &'a [u8]) -> CodeReader<'a>
         requires { length bytes.now ≤ rule_bytes }
         ensures sound { Sound result }
         ensures input { input result ≡ bytes.now }
+        ensures place { result.place ≡ 0 }
     {
         CodeReader {
             bytes,
             place: 0,
             state: State::Before,
-            stack: [Open {
-                mention: 0,
-                bodies: 0,
-            }; DEPTH],
-            depth: 0,
+            stack: ArrayVec::new(),
             outline: Outline::new(),
         }
     }
 
     /// A refusal at the next byte.
+    // Each reader knows its own place.
     fn fault(&self, reason: Reason) -> ReaderFault
         ensures { result ≡ record { reason = reason; place = self.now.place } }
     {
@@ -82,64 +88,76 @@ impl<'a> CodeReader<'a> {
     /// Opens a rule.
     fn enter(&mut self) -> Result<(), ReaderFault>
         requires { Ready self.old 1 }
-        ensures input { input self.new ≡ input self.old }
-        ensures place { self.new.place ≡ self.old.place }
-        ensures cases { MatchResult result (λ _. StandsAt self.new (self.old.place + 1)) (λ f. Offends (input self.old) f.reason f.place) }
+        ensures { MatchResult result (λ _. Stepped self.old self.new) (λ f. Offends (input self.old) f.reason f.place) }
     {
-        if self.depth == DEPTH {
+        if self.stack.is_full() {
             return Err(self.fault(Reason::Deep));
         }
-        if self.depth > 0 && self.stack[self.depth - 1].bodies == BODIES {
+        if self
+            .stack
+            .as_slice()
+            .last()
+            .is_some_and(|open| open.bodies == BODIES)
+        {
             return Err(self.fault(Reason::Ninth));
         }
         let mention = self.outline.mention(self.place + 1);
-        self.stack[self.depth] = Open { mention, bodies: 0 };
-        self.depth += 1;
+        self.stack.push(Open { mention, bodies: 0 });
         self.state = State::Head(HEAD);
+        self.place += 1;
         Ok(())
+    }
+
+    /// Takes a byte of a head, of which `left` are still to come.
+    fn head(&mut self, left: u8)
+        requires head { InHead (input self.old) self.old.stack.items self.old.outline self.old.place left }
+        requires more { self.old.place < length (input self.old) }
+        ensures { Stepped self.old self.new }
+    {
+        self.state = if left > 1 {
+            State::Head(left - 1)
+        } else {
+            State::Inside
+        };
+        self.place += 1;
     }
 
     /// Closes the rule opened last.
     fn leave(&mut self)
-        requires { (Ready self.old 2) × (0 < self.old.depth) }
-        ensures input { input self.new ≡ input self.old }
-        ensures place { self.new.place ≡ self.old.place }
-        ensures stands { StandsAt self.new (self.old.place + 1) }
+        requires ready { Ready self.old 2 }
+        requires open { 0 < array_vec_len self.old.stack }
+        ensures { Stepped self.old self.new }
     {
-        let depth = self.depth - 1;
-        let done = self.stack[depth];
+        let done = self.stack.pop().unwrap();
         self.outline.end(done.mention, done.bodies);
-        self.depth = depth;
-        if depth == 0 {
-            self.state = State::After;
-        } else {
-            let parent = self.stack[depth - 1];
-            self.stack[depth - 1] = Open {
-                mention: parent.mention,
-                bodies: parent.bodies + 1,
-            };
-            self.state = State::Inside;
+        self.place += 1;
+        match self.stack.pop() {
+            Some(parent) => {
+                // Taken off and put back. Tried: `as_mut_slice().last_mut()`, and the proof got no equation for what the stack holds afterwards.
+                self.stack.push(Open {
+                    bodies: parent.bodies + 1,
+                    ..parent
+                });
+                self.state = State::Inside;
+            }
+            None => self.state = State::After,
         }
     }
 
     /// Takes the next byte.
-    fn step(&mut self) -> Result<(), ReaderFault>
-        requires { (Sound self.old) × (self.old.place < length (input self.old)) }
-        ensures input { input self.new ≡ input self.old }
-        ensures cases { MatchResult result (λ _. Sound self.new × (self.new.place ≡ self.old.place + 1)) (λ f. Offends (input self.old) f.reason f.place) }
+    fn step(&mut self, byte: u8) -> Result<(), ReaderFault>
+        requires sound { Sound self.old }
+        requires here { At (input self.old) self.old.place byte }
+        ensures { MatchResult result (λ _. Stepped self.old self.new) (λ f. Offends (input self.old) f.reason f.place) }
     {
-        let byte = self.bytes[self.place];
         match (self.state, byte) {
-            (State::Before, OPEN) => self.enter()?,
-            (State::Inside, OPEN) => self.enter()?,
+            (State::Before | State::Inside, OPEN) => self.enter()?,
             (State::Inside, CLOSE) => self.leave(),
-            (State::Head(left), _) if left > 1 => self.state = State::Head(left - 1),
-            (State::Head(_), _) => self.state = State::Inside,
-            (State::Before, _) => return Err(self.fault(Reason::Misplaced)),
-            (State::Inside, _) => return Err(self.fault(Reason::Misplaced)),
-            (State::After, _) => return Err(self.fault(Reason::Misplaced)),
+            (State::Head(left), _) => self.head(left),
+            (State::Before | State::Inside | State::After, _) => {
+                return Err(self.fault(Reason::Misplaced));
+            }
         }
-        self.place += 1;
         Ok(())
     }
 }
@@ -148,15 +166,10 @@ impl<'a> CodeReader<'a> {
 pub fn read_codes(bytes: &[u8]) -> Result<Outline, ReaderFault>
     ensures { MatchResult result (λ o. ReadsAs bytes.now o) (λ f. Refused bytes.now f.reason f.place) }
 {
-    if bytes.len() > RULE_BYTES {
-        return Err(ReaderFault {
-            reason: Reason::Oversize,
-            place: RULE_BYTES,
-        });
-    }
+    check_size(bytes)?;
     let mut reader = CodeReader::new(bytes);
-    while reader.place < bytes.len() {
-        reader.step()?;
+    for byte in bytes {
+        reader.step(*byte)?;
     }
     match reader.state {
         State::After => Ok(reader.outline),
@@ -173,10 +186,7 @@ mod tests {
 
     // The fault with which the codes are refused, if they are.
     fn refusal(codes: &[u8]) -> Option<ReaderFault> {
-        match read_codes(codes) {
-            Ok(_) => None,
-            Err(fault) => Some(fault),
-        }
+        read_codes(codes).err()
     }
 
     // Checks why and where the codes are refused.
@@ -227,8 +237,8 @@ mod tests {
     #[test]
     fn keeps_the_depth(rt: HostRuntime) -> Result<(), Fail> {
         let mut codes = [2; 80];
-        for i in 0..16 {
-            codes[4 * i] = 1;
+        for byte in codes.iter_mut().step_by(4).take(16) {
+            *byte = 1;
         }
         assert!(rt; refusal(&codes).is_none());
         codes[64] = 1;
@@ -239,8 +249,8 @@ mod tests {
     fn keeps_the_bodies(rt: HostRuntime) -> Result<(), Fail> {
         let mut codes = [2; 45];
         codes[0] = 1;
-        for i in 0..8 {
-            codes[4 + 5 * i] = 1;
+        for byte in codes.iter_mut().skip(4).step_by(5).take(8) {
+            *byte = 1;
         }
         assert!(rt; refusal(&codes).is_none());
         codes[44] = 1;

@@ -11,7 +11,7 @@ use crate::written::Written;
 use keys::Key;
 
 /// A feature of a class, each by number.
-#[derive(Clone, Copy, Debug, PartialEq)]
+#[derive(Clone, Copy, Debug, Default, PartialEq)]
 pub struct FeatureCode {
     pub class: u16,
     pub feature: u8,
@@ -27,7 +27,7 @@ impl Key for FeatureCode {
     ghost transitive = { Prim.search rules };
 
     fn same_as(&self, other: &FeatureCode) -> bool {
-        self.class == other.class && self.feature == other.feature
+        self == other
     }
 }
 
@@ -36,17 +36,12 @@ fn code_at(bytes: &[u8], place: usize) -> FeatureCode
     ensures whole { Whole bytes.now place → result ≡ code_at bytes.now place }
     ensures cut { (Whole bytes.now place → ⊥) → result ≡ no_code }
 {
-    if bytes.len() < 3 || bytes.len() - 3 < place {
-        return FeatureCode {
-            class: 0,
-            feature: 0,
-        };
-    }
-    let high = u16::from(bytes[place]);
-    let low = u16::from(bytes[place + 1]);
-    FeatureCode {
-        class: 256 * high + low,
-        feature: bytes[place + 2],
+    match bytes.get(place..) {
+        Some([high, low, feature, ..]) => FeatureCode {
+            class: u16::from_be_bytes([*high, *low]),
+            feature: *feature,
+        },
+        _ => FeatureCode::default(),
     }
 }
 

@@ -25,7 +25,8 @@ pub enum Token {
     Finish,
 }
 
-/// A word or a mark, from the place `start` up to the place `end`.
+/// A word or a mark, from the place `start` up to the place `end`. A stray ends where it starts, as nothing is read behind it.
+// A place with its bytes would be a struct taken apart again in each of the four that find a lexeme.
 #[derive(Clone, Copy, Debug, PartialEq)]
 pub struct Lexeme {
     pub token: Token,
@@ -37,86 +38,73 @@ pub struct Lexeme {
 fn is_letter(byte: u8) -> bool
     ensures { result ≡ letter byte }
 {
-    byte >= b'a' && byte <= b'z'
+    byte.is_ascii_lowercase()
 }
 
 /// Whether the byte may stand in a word.
-fn is_wordly(byte: u8) -> bool
+pub(crate) fn is_wordly(byte: u8) -> bool
     ensures { result ≡ wordly byte }
 {
-    is_letter(byte) || byte >= b'0' && byte <= b'9' || byte == b'_'
+    matches!(byte, b'a'..=b'z' | b'0'..=b'9' | b'_')
 }
 
-/// The first place from `from` on at which no space stands.
-fn skip_spaces(bytes: &[u8], from: usize) -> usize
-    requires { from ≤ length bytes.now }
+/// How many bytes pass the test before the first that fails it.
+pub(crate) fn run_length<F: Fn(u8) -> bool>(bytes: &[u8], test: F) -> usize
+    requires { F.IsAlwaysCallable test }
+    ensures within { result ≤ length bytes.now }
+    ensures passes { (k : ℕ) → k < result → F.post test (slice_index bytes.now k) true }
+    ensures stops { result < length bytes.now → F.post test (slice_index bytes.now result) false }
+{
+    let fails = bytes.iter().position(|byte| !test(*byte));
+    fails.unwrap_or(bytes.len())
+}
+
+/// The first place from `from` on whose byte fails the test.
+fn run_end<F: Fn(u8) -> bool>(bytes: &[u8], from: usize, test: F) -> usize
+    requires callable { F.IsAlwaysCallable test }
+    requires within { from ≤ length bytes.now }
     ensures from { from ≤ result }
     ensures within { result ≤ length bytes.now }
-    ensures spaces { Spaces bytes.now from result }
-    ensures stops { result < length bytes.now → slice_index bytes.now result ≢ 32 }
+    ensures passes { (k : ℕ) → from ≤ k → k < result → F.post test (slice_index bytes.now k) true }
+    ensures stops { result < length bytes.now → F.post test (slice_index bytes.now result) false }
 {
-    let mut at = from;
-    while at < bytes.len() && bytes[at] == b' ' {
-        at += 1;
-    }
-    at
+    from + run_length(&bytes[from..], test)
 }
 
-/// Where the word that begins at `start` ends.
-pub(crate) fn word_end(bytes: &[u8], start: usize) -> usize
-    requires { start ≤ length bytes.now }
-    ensures from { start ≤ result }
-    ensures within { result ≤ length bytes.now }
-    ensures all { All wordly bytes.now start result }
-    ensures stops { result < length bytes.now → wordly (slice_index bytes.now result) ≡ false }
-{
-    let mut at = start;
-    while at < bytes.len() && is_wordly(bytes[at]) {
-        at += 1;
-    }
-    at
-}
-
-/// Whether the word from `start` up to `end` is `if`.
-fn is_if(bytes: &[u8], start: usize, end: usize) -> bool
-    requires { (start < end) × (end ≤ length bytes.now) }
-    ensures yes { result ≡ true → SpellsIf bytes.now start end }
-    ensures no { result ≡ false → SpellsIf bytes.now start end → ⊥ }
-{
-    end == start + 2 && bytes[start] == b'i' && bytes[start + 1] == b'f'
-}
-
-/// The word that begins at `start`, where no mark and no space stands.
-fn lex_word(bytes: &[u8], start: usize) -> Lexeme
+/// The kind of the word that begins at `start`, where no mark and no space stands, and where it ends.
+/// A stray ends where it starts, as nothing is read behind it.
+fn word_at(bytes: &[u8], start: usize) -> (Token, usize)
     requires { Plain bytes.now start }
-    ensures from { result.start ≡ start }
-    ensures what { Is bytes.now result.token result.start result.end }
+    ensures { Is bytes.now result.0 start result.1 }
 {
-    let end = word_end(bytes, start);
     if !is_letter(bytes[start]) {
-        Lexeme {
-            token: Token::Stray,
-            start,
-            end: start,
-        }
-    } else if end - start > NAME_BYTES {
-        Lexeme {
-            token: Token::Long,
-            start,
-            end,
-        }
-    } else if is_if(bytes, start, end) {
-        Lexeme {
-            token: Token::If,
-            start,
-            end,
-        }
+        return (Token::Stray, start);
+    }
+    let end = run_end(bytes, start, is_wordly);
+    let word = &bytes[start..end];
+    if word.len() > NAME_BYTES {
+        (Token::Long, end)
+    } else if word == b"if".as_slice() {
+        (Token::If, end)
     } else {
-        Lexeme {
-            token: Token::Name,
-            start,
-            end,
-        }
+        (Token::Name, end)
+    }
+}
+
+/// What stands at `start`, where no space does, and where it ends.
+fn token_at(bytes: &[u8], start: usize) -> (Token, usize)
+    requires within { start ≤ length bytes.now }
+    requires no_space { start < length bytes.now → slice_index bytes.now start ≢ 32 }
+    ensures { Is bytes.now result.0 start result.1 }
+{
+    let Some(byte) = bytes.get(start) else {
+        return (Token::Finish, start);
+    };
+    match *byte as char {
+        '(' => (Token::Open, start + 1),
+        ')' => (Token::Close, start + 1),
+        ',' => (Token::Comma, start + 1),
+        _ => word_at(bytes, start),
     }
 }
 
@@ -125,30 +113,7 @@ pub(crate) fn lex(bytes: &[u8], from: usize) -> Lexeme
     requires { from ≤ length bytes.now }
     ensures { Lexes bytes.now from result }
 {
-    let start = skip_spaces(bytes, from);
-    if start == bytes.len() {
-        return Lexeme {
-            token: Token::Finish,
-            start,
-            end: start,
-        };
-    }
-    match bytes[start] as char {
-        '(' => Lexeme {
-            token: Token::Open,
-            start,
-            end: start + 1,
-        },
-        ')' => Lexeme {
-            token: Token::Close,
-            start,
-            end: start + 1,
-        },
-        ',' => Lexeme {
-            token: Token::Comma,
-            start,
-            end: start + 1,
-        },
-        _ => lex_word(bytes, start),
-    }
+    let start = run_end(bytes, from, |byte| byte == b' ');
+    let (token, end) = token_at(bytes, start);
+    Lexeme { token, start, end }
 }

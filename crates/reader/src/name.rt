@@ -4,7 +4,8 @@ ghost use Rattle.reader.specs.Limits.{name_bytes};
 
 use crate::limits::NAME_BYTES;
 
-/// A name: its bytes lie in the first `len` places, with zeros behind them.
+/// A name: its bytes are the first `len`. What stands behind them does not count.
+// An array with a length beside it: a name is `Copy`, and the crate allocates nothing. The console's buffer lies a layer above.
 #[derive(Clone, Copy)]
 pub struct Name {
     pub(crate) len: u8,

@@ -1,11 +1,11 @@
 //! What is done with names.
 ghost use Rattle.std.specs.Prelude.{◌≡◌, ℕ, ◌<◌, ◌≤◌, length, drop};
-ghost use Rattle.reader.specs.Names.{equal_bytes, same_name, named, word, name_at};
+ghost use Rattle.reader.specs.Names.{text, same_name, named, word};
 ghost use Rattle.reader.specs.TextTotal.{text_reading};
 ghost use Rattle.reader.specs.NameBytes.{same_reflexive, same_symmetric, same_transitive};
 
 use crate::fault::ReaderFault;
-use crate::lexer::word_end;
+use crate::lexer::{is_wordly, run_length};
 use crate::limits::NAME_BYTES;
 use crate::name::Name;
 use crate::outline::Outline;
@@ -13,27 +13,12 @@ use crate::text::read_text;
 use crate::written::Written;
 use keys::Key;
 
-/// Whether two slices hold the same bytes.
-fn equal(a: &[u8], b: &[u8]) -> bool
-    ensures { result ≡ equal_bytes a.now b.now }
-{
-    if a.len() != b.len() {
-        return false;
-    }
-    for i in 0..a.len() {
-        if a[i] != b[i] {
-            return false;
-        }
-    }
-    true
-}
-
 /// The word at `place`: as long as can be, and empty where none stands.
 fn word_at(bytes: &[u8], place: usize) -> &[u8]
     ensures { result.now ≡ word (drop place bytes.now) }
 {
-    let start = place.min(bytes.len());
-    &bytes[start..word_end(bytes, start)]
+    let rest = &bytes[place.min(bytes.len())..];
+    &rest[..run_length(rest, is_wordly)]
 }
 
 impl Name {
@@ -43,13 +28,18 @@ impl Name {
     {
         let len = word.len().min(NAME_BYTES);
         let mut bytes = [0; NAME_BYTES];
-        for i in 0..len {
-            bytes[i] = word[i];
-        }
+        bytes[..len].copy_from_slice(&word[..len]);
         Name {
             len: len as u8,
             bytes,
         }
+    }
+
+    /// The bytes of the name.
+    fn text(&self) -> &[u8]
+        ensures { result.now ≡ text self.now }
+    {
+        &self.bytes[..self.len as usize]
     }
 }
 
@@ -62,10 +52,9 @@ impl Key for Name {
 
     ghost transitive = { same_transitive };
 
+    // By the bytes in use: that zeros stand behind them is no field's promise.
     fn same_as(&self, other: &Name) -> bool {
-        let n = self.len as usize;
-        let m = other.len as usize;
-        equal(&self.bytes[0..n], &other.bytes[0..m])
+        self.text() == other.text()
     }
 }
 

@@ -1,32 +1,40 @@
 //! Reads a rule in its text form.
-ghost use Rattle.std.specs.Prelude.{◌≡◌, ℕ, suc, ◌+◌, ◌-◌, ◌*◌, ◌<◌, ◌≤◌, length, MatchResult, ◌≢◌};
-ghost use Rattle.reader.specs.declared.lexer.Token.TheVariants.{Close as Closes, Name as Named};
+ghost use Rattle.std.specs.Prelude.{◌≡◌, ℕ, suc, ◌+◌, ◌-◌, ◌*◌, ◌<◌, ◌≤◌, length, MatchResult, OnOk, IfErr, ◌≢◌};
+ghost use Rattle.reader.specs.declared.lexer.Token.TheVariants.{Open as Opens, Close as Closes, Name as Named};
 ghost use Rattle.reader.specs.declared.fault.Reason.TheVariants.{Misplaced as Misplaces};
-ghost use Rattle.reader.specs.Lexemes.{Lexes};
+ghost use Rattle.reader.specs.Lexemes.{Lexed, Lexes};
+ghost use Rattle.reader.specs.LexTotal.{is_prop};
 ghost use Rattle.reader.specs.Limits.{rule_bytes, deepest, most_bodies};
 ghost use Rattle.reader.specs.Text.{Follows, Begins, BadRule, BadBody, ReadsAs, Refused};
-ghost use Rattle.reader.specs.TextSteps.{input, Sound, Fresh, ReadHead, ReadRule, ReadBody};
 
 use crate::fault::{ReaderFault, Reason};
 use crate::lexer::{Lexeme, Token, lex};
-use crate::limits::{BODIES, DEPTH, RULE_BYTES};
+use crate::limits::{BODIES, DEPTH, check_size};
 use crate::outline::Outline;
 
 /// A reader that stands at its next word or mark, with the outline of what it has read.
+// That a head may stand next is no ghost field: it is false while one is being taken in.
+// The depth left and the bodies so far are numbers of a call, not of the reader: the calls of one rule inside another have their own.
 #[derive(Drop)]
 struct TextReader<'a> {
     bytes: &'a [u8],
     next: Lexeme,
     outline: Outline,
+    ghost short: { length bytes.now ≤ rule_bytes },
+    ghost lexed: { Lexed bytes.now next } by { is_prop bytes.now next.token next.start next.end },
+    ghost closed: { outline.ended ≤ outline.mentioned },
 }
 
 impl<'a> TextReader<'a> {
+    ghost use Rattle.reader.specs.TextSteps.{input, Fresh, Advanced, ReadHead, ReadRule, ReadBody};
+
     /// A reader that has read nothing.
     fn new(bytes: &'a [u8]) -> TextReader<'a>
         requires { length bytes.now ≤ rule_bytes }
         ensures input { input result ≡ bytes.now }
         ensures next { Lexes bytes.now 0 result.next }
-        ensures outline { (result.outline.mentioned ≡ 0) × (result.outline.ended ≡ 0) }
+        ensures mentioned { result.outline.mentioned ≡ 0 }
+        ensures ended { result.outline.ended ≡ 0 }
     {
         TextReader {
             bytes,
@@ -36,6 +44,7 @@ impl<'a> TextReader<'a> {
     }
 
     /// A refusal at the next word or mark.
+    // Each reader knows its own place.
     fn fault(&self, reason: Reason) -> ReaderFault
         ensures { result ≡ record { reason = reason; place = self.now.next.start } }
     {
@@ -47,19 +56,28 @@ impl<'a> TextReader<'a> {
 
     /// Goes on to the next word or mark.
     fn advance(&mut self)
-        requires { self.old.next.end ≤ length (input self.old) }
-        ensures input { input self.new ≡ input self.old }
-        ensures outline { self.new.outline ≡ self.old.outline }
-        ensures next { Follows (input self.old) self.old.next self.new.next }
+        ensures { Advanced self.old self.new }
     {
         self.next = lex(self.bytes, self.next.end);
     }
 
+    /// A refusal of what stands where a head should.
+    fn no_head(&self) -> ReaderFault
+        requires { self.now.next.token ≢ Named }
+        ensures rule { (d : ℕ) → BadRule (input self.now) d self.now.next result.reason result.place }
+        ensures body { self.now.next.token ≢ Opens → (d n : ℕ) → BadBody (input self.now) d n self.now.next result.reason result.place }
+    {
+        match self.next.token {
+            Token::Long => self.fault(Reason::LongName),
+            _ => self.fault(Reason::Misplaced),
+        }
+    }
+
     /// Reads a name, and answers its number.
     fn name(&mut self) -> u16
-        requires { (Fresh self.old) × (self.old.next.token ≡ Named) }
-        ensures input { input self.new ≡ input self.old }
-        ensures head { ReadHead result self.old self.new }
+        requires fresh { Fresh self.old }
+        requires named { self.old.next.token ≡ Named }
+        ensures { ReadHead result self.old self.new }
     {
         let number = self.outline.mention(self.next.start);
         self.advance();
@@ -69,31 +87,29 @@ impl<'a> TextReader<'a> {
     /// Reads a head, and answers its number.
     fn head(&mut self) -> Result<u16, ReaderFault>
         requires { Fresh self.old }
-        ensures input { input self.new ≡ input self.old }
-        ensures cases { MatchResult result (λ n. ReadHead n self.old self.new) (λ f. (d : ℕ) → BadRule (input self.old) d self.old.next f.reason f.place) }
+        ensures { MatchResult result (λ n. ReadHead n self.old self.new) (λ f. (d : ℕ) → BadRule (input self.old) d self.old.next f.reason f.place) }
     {
         match self.next.token {
             Token::Name => Ok(self.name()),
-            Token::Long => Err(self.fault(Reason::LongName)),
-            _ => Err(self.fault(Reason::Misplaced)),
+            _ => Err(self.no_head()),
         }
     }
 
     /// Reads a rule with `rest` depths left below it.
     #[cycle(body_rule)]
     fn rule(&mut self, rest: usize) -> Result<(), ReaderFault>
-        requires { (Fresh self.old) × (rest < deepest) }
-        ensures input { input self.new ≡ input self.old }
-        ensures cases { MatchResult result (λ _. ReadRule (deepest - rest) self.old self.new) (λ f. BadRule (input self.old) (deepest - rest) self.old.next f.reason f.place) }
+        requires fresh { Fresh self.old }
+        requires depth { rest < deepest }
+        ensures { MatchResult result (λ _. ReadRule (deepest - rest) self.old self.new) (λ f. BadRule (input self.old) (deepest - rest) self.old.next f.reason f.place) }
     {
         let number = self.head()?;
         let mut bodies = 0;
-        let mut more = self.next.token == Token::If;
-        while more {
+        let mut link = Token::If;
+        while self.next.token == link {
             self.advance();
             self.body(rest, bodies)?;
             bodies += 1;
-            more = self.next.token == Token::Comma;
+            link = Token::Comma;
         }
         self.outline.end(number, bodies);
         Ok(())
@@ -102,9 +118,11 @@ impl<'a> TextReader<'a> {
     /// Reads a body of a rule with `rest` depths left below it, after `count` others.
     #[cycle(body_rule)]
     fn body(&mut self, rest: usize, count: u8) -> Result<(), ReaderFault>
-        requires { (Fresh self.old) × ((rest < deepest) × (count ≤ most_bodies)) }
-        ensures input { input self.new ≡ input self.old }
-        ensures cases { MatchResult result (λ _. ReadBody (suc (deepest - rest)) self.old self.new × (count < most_bodies)) (λ f. BadBody (input self.old) (suc (deepest - rest)) count self.old.next f.reason f.place) }
+        requires fresh { Fresh self.old }
+        requires depth { rest < deepest }
+        requires few { count ≤ most_bodies }
+        ensures few { OnOk result (count < most_bodies) }
+        ensures cases { MatchResult result (λ _. ReadBody (suc (deepest - rest)) self.old self.new) (λ f. BadBody (input self.old) (suc (deepest - rest)) count self.old.next f.reason f.place) }
     {
         match self.next.token {
             Token::Name => {
@@ -119,15 +137,17 @@ impl<'a> TextReader<'a> {
                 self.rule(rest - 1)?;
                 self.close()
             }
-            Token::Long => Err(self.fault(Reason::LongName)),
-            _ => Err(self.fault(Reason::Misplaced)),
+            _ => Err(self.no_head()),
         }
     }
 
     /// Whether there is room for one more body after `count` others.
     fn room(&self, rest: usize, count: u8) -> Result<(), ReaderFault>
-        requires { (rest < deepest) × (count ≤ most_bodies) }
-        ensures { MatchResult result (λ _. (0 < rest) × (count < most_bodies)) (λ f. Begins self.now.next.token → BadBody (input self.now) (suc (deepest - rest)) count self.now.next f.reason f.place) }
+        requires depth { rest < deepest }
+        requires few { count ≤ most_bodies }
+        ensures deep { OnOk result (0 < rest) }
+        ensures few { OnOk result (count < most_bodies) }
+        ensures refused { IfErr result (λ f. Begins self.now.next.token → BadBody (input self.now) (suc (deepest - rest)) count self.now.next f.reason f.place) }
     {
         if rest == 0 {
             Err(self.fault(Reason::Deep))
@@ -140,10 +160,9 @@ impl<'a> TextReader<'a> {
 
     /// Reads a closing bracket.
     fn close(&mut self) -> Result<(), ReaderFault>
-        requires { Sound self.old }
-        ensures input { input self.new ≡ input self.old }
-        ensures outline { self.new.outline ≡ self.old.outline }
-        ensures cases { MatchResult result (λ _. (self.old.next.token ≡ Closes) × Follows (input self.old) self.old.next self.new.next) (λ f. (self.old.next.token ≢ Closes) × (f ≡ record { reason = Misplaces; place = self.old.next.start })) }
+        ensures closes { MatchResult result (λ _. self.old.next.token ≡ Closes) (λ _. self.old.next.token ≢ Closes) }
+        ensures next { OnOk result (Advanced self.old self.new) }
+        ensures refused { IfErr result (λ f. f ≡ record { reason = Misplaces; place = self.old.next.start }) }
     {
         if self.next.token == Token::Close {
             self.advance();
@@ -158,12 +177,7 @@ impl<'a> TextReader<'a> {
 pub fn read_text(bytes: &[u8]) -> Result<Outline, ReaderFault>
     ensures { MatchResult result (λ o. ReadsAs bytes.now o) (λ f. Refused bytes.now f.reason f.place) }
 {
-    if bytes.len() > RULE_BYTES {
-        return Err(ReaderFault {
-            reason: Reason::Oversize,
-            place: RULE_BYTES,
-        });
-    }
+    check_size(bytes)?;
     let mut reader = TextReader::new(bytes);
     reader.rule(DEPTH - 1)?;
     if reader.next.token == Token::Finish {
@@ -181,13 +195,8 @@ mod tests {
     use std::test::Fail;
 
     fn refused(rt: &impl Abort, text: &[u8], reason: Reason, place: usize) -> Result<(), Fail> {
-        match read_text(text) {
-            Ok(_) => Err(Fail::new("read")),
-            Err(fault) => {
-                assert_eq!(rt; fault, ReaderFault { reason, place });
-                Ok(())
-            },
-        }
+        assert_eq!(rt; read_text(text).err(), Some(ReaderFault { reason, place }));
+        Ok(())
     }
 
     fn accepted(rt: &impl Abort, text: &[u8]) {

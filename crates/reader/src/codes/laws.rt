@@ -5,27 +5,21 @@ ghost use Rattle.reader.specs.Codes.{OneReading, OneRefusal, NeverBoth, Earliest
 ghost use Rattle.reader.specs.FeatureCodes.{HeadsWhole};
 
 /// An input has one reading or one refusal, and not both.
-/// What stands before the place of a refusal could still become a rule.
-pub fn codes_have_one_answer() -> u8
+/// What stands before the place of a refusal could still become a rule, the limit on length aside.
+pub fn codes_have_one_answer()
     ensures reading { OneReading }
     ensures refusal { OneRefusal }
     ensures apart { NeverBoth }
     ensures earliest { Earliest }
     ensures total { OneAnswer }
-{
-    0
-}
+{}
 
 /// A whole feature code stands at the place of each head.
-pub fn codes_have_heads() -> u8
+pub fn codes_have_heads()
     ensures { HeadsWhole }
-{
-    0
-}
+{}
 
 /// A rule that is written in codes is read back.
-pub fn codes_are_read_back() -> u8
+pub fn codes_are_read_back()
     ensures { ReadBack }
-{
-    0
-}
+{}

@@ -15,37 +15,38 @@ impl Outline {
         Outline {
             places: [0; HEADS],
             mentioned: 0,
-            ends: [End {
-                mention: 0,
-                bodies: 0,
-            }; HEADS],
+            ends: [End::default(); HEADS],
             ended: 0,
         }
     }
 
     /// Adds a head, and answers its number.
     pub(crate) fn mention(&mut self, place: usize) -> u16
-        requires { (self.old.mentioned < most_heads) × (place ≤ rule_bytes) }
+        requires room { self.old.mentioned < most_heads }
+        requires in_rule { place ≤ rule_bytes }
         ensures number { result ≡ self.old.mentioned }
         ensures count { self.new.mentioned ≡ self.old.mentioned + 1 }
         ensures added { mentions self.new ≡ mentions self.old ++ place ∷ [] }
-        ensures same { (ended self.new ≡ ended self.old) × (self.new.ended ≡ self.old.ended) }
+        ensures ends { ended self.new ≡ ended self.old }
+        ensures ends_count { self.new.ended ≡ self.old.ended }
     {
         let number = self.mentioned;
         self.places[number] = place as u16;
-        self.mentioned = number + 1;
+        self.mentioned += 1;
         number as u16
     }
 
     /// Adds a rule that has ended.
+    // Beside `mention`: one function for both would borrow an array and its count, and be no shorter.
     pub(crate) fn end(&mut self, mention: u16, bodies: u8)
-        requires { (self.old.ended < most_heads) × (bodies ≤ most_bodies) }
+        requires room { self.old.ended < most_heads }
+        requires few { bodies ≤ most_bodies }
         ensures count { self.new.ended ≡ self.old.ended + 1 }
         ensures added { ended self.new ≡ ended self.old ++ record { mention = mention; bodies = bodies } ∷ [] }
-        ensures same { (mentions self.new ≡ mentions self.old) × (self.new.mentioned ≡ self.old.mentioned) }
+        ensures heads { mentions self.new ≡ mentions self.old }
+        ensures heads_count { self.new.mentioned ≡ self.old.mentioned }
     {
-        let at = self.ended;
-        self.ends[at] = End { mention, bodies };
-        self.ended = at + 1;
+        self.ends[self.ended] = End { mention, bodies };
+        self.ended += 1;
     }
 }

@@ -1,20 +1,12 @@
-use Rattle.std.proofs.Common.{sym, ◌∙◌, arith}
-use Rattle.keys.proofs.Slots.{number_hit, number_miss, number_end}
+use Rattle.std.proofs.Common.{rules, tests}
+use Rattle.std.proofs.lemmas.Iterator.{YieldsList-from_slice}
+use Rattle.std.proofs.lemmas.Iterator.Search.{position_from_yields_List}
+use Rattle.keys.proofs.Slots.{first_at_position}
 use Rattle.keys.proofs.lookup.first_same.Goals as goal
-
-pub returns-then-same_as : goal.returns-then-same_as
-returns-then-same_as g c =
-    let here = number_hit g.K.Key.same _ _ _ _ c.loop-i-test.true c.index-keys-i.is (sym c.same_as.ensures ∙ c.if-same_as.true) in (
-      omega (arith, here, c.loop-i.invariant),
-      c.loop-i-test.true,
-    )
-
-pub loop-i-preserved : goal.loop-i-preserved
-loop-i-preserved g c =
-    let here = number_miss g.K.Key.same _ _ _ _ c.loop-i-test.true c.index-keys-i.is (sym c.same_as.ensures ∙ c.if-same_as.false) in
-    omega (arith, here, c.loop-i.invariant)
 
 pub returns : goal.returns
 returns g c =
-    let past = number_end g.K.Key.same c.args.keys.now c.args.key.now c.loop-i.i c.loop-i-test.false in
-    omega (arith, past, c.loop-i.invariant)
+    let keys = c.args.keys.now in
+    let same = g.K.Key.same in
+    first_at_position same keys c.args.key.now c.position.result
+    (position_from_yields_List (λ k. same k c.args.key.now) _ _ _ c.position.ensures.ran (YieldsList-from_slice keys (cc)) (λ x b q k. search (rules, tests)))

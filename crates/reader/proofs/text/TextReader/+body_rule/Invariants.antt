@@ -10,8 +10,8 @@ decreases-body l = 2 * l.rest
 abbrev pub decreases-rule : goal.decreases-rule
 decreases-rule l = 2 * l.rest + 1
 
-abbrev pub invariant-rule-loop-more : goal.invariant-rule-loop-more
-invariant-rule-loop-more l = Looping (suc (deepest - l.rest)) l.initial.self l.self l.bodies l.more
+abbrev pub invariant-rule-loop-self : goal.invariant-rule-loop-self
+invariant-rule-loop-self l = Looping (suc (deepest - l.rest)) l.initial.self l.self l.bodies l.link
 
-abbrev pub decreases-rule-loop-more : goal.decreases-rule-loop-more
-decreases-rule-loop-more l = most_bodies - l.bodies
+abbrev pub decreases-rule-loop-self : goal.decreases-rule-loop-self
+decreases-rule-loop-self l = most_bodies - l.bodies
