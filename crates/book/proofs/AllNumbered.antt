@@ -2,7 +2,9 @@
 use Rattle.std.proofs.Common.{◌≡◌, ℕ, suc, ◌+◌, ◌<◌, ◌≤◌, Bool, true, false, cond, leb, List, [], ◌∷◌, ◌++◌, length, get_or, sym, refl, ap, ◌∙◌, subst, ap₂, arith, length-append, le-leb}
 use mathlib.Core.Option.{some}
 use borrow.Author.Tests.{lt-leb}
-use Rattle.std.specs.List.{AllByRecursion}
+use Rattle.std.specs.List.{All}
+use Rattle.std.proofs.lemmas.List.Elements.{All-head}
+use Rattle.reader.proofs.AllLists.{all_right}
 use Rattle.std.proofs.lemmas.List.{append-nil, append_assoc, map-append, length_push, get_or_at}
 use Rattle.keys.specs.Kept.{Front}
 use Rattle.keys.specs.Numbering.{number, appear}
@@ -22,9 +24,8 @@ places_many : {K : Type 0} (xs : List (Mention K)) → length (places xs) ≡ le
 places_many [] = refl
 places_many (x ∷ xs) = ap suc (places_many xs)
 
-every_here : {X : Type 0} (P : X → Type 0) (xs : List X) (x : X) (ys : List X) → AllByRecursion P (xs ++ x ∷ ys) → P x
-every_here P [] x ys h = h.0
-every_here P (y ∷ xs) x ys h = every_here P xs x ys h.1
+every_here : {X : Type 0} (P : X → Type 0) (xs : List X) (x : X) (ys : List X) → All P (xs ++ x ∷ ys) → P x
+every_here P xs x ys h = All-head P x ys (all_right P xs (x ∷ ys) h)
 
 module _ {K : Type 0} (same : K → K → Bool) where
   -- each key mentioned has a number
@@ -86,7 +87,7 @@ module _ {K : Type 0} (same : K → K → Bool) where
   }
 
   module _ (reflexive : (k : K) → same k k ≡ true) (slots : ℕ) (ks₀ ks ks' : List K) (ms : List (Mention K)) (ns : List ℕ) (i p : ℕ) (k : K)
-      (within : i < length (places ms)) (here : p ≡ get_or (places ms) i 0) (read : AllByRecursion (λ (m : Mention K). m.place ≡ p → m.key ≡ k) ms) where
+      (within : i < length (places ms)) (here : p ≡ get_or (places ms) i 0) (read : All (λ (m : Mention K). m.place ≡ p → m.key ≡ k) ms) where
     abbrev Read : Mention K → Type 0
     Read m = m.place ≡ p → m.key ≡ k
 
@@ -102,7 +103,7 @@ module _ {K : Type 0} (same : K → K → Bool) where
 
     key_is : (met : List (Mention K)) (m : Mention K) (rest : List (Mention K)) → ms ≡ met ++ m ∷ rest → length met ≡ i → m.key ≡ k
     key_is met m rest e l =
-        every_here Read met m rest (subst (AllByRecursion Read) e read) (place_is met m rest e l)
+        every_here Read met m rest (subst (All Read) e read) (place_is met m rest e l)
 
     not_last : (met : List (Mention K)) → ms ≡ met ++ [] → length met ≡ i → ⊥
     not_last met e l = omega (arith, within, places_many ms, ap length e, ap length (append-nil met), l)

@@ -1,20 +1,19 @@
 -- What entering a rule leaves in the book.
-use Rattle.std.proofs.Common.{◌≡◌, ℕ, ◌+◌, ◌%◌, ◌^◌, ◌<◌, ◌≤◌, min, max, List, length, get_or, take, sym, ap, ◌∙◌, subst, ap₂, mod-eq_of_lt, arith, length-append, length-take}
-use Rattle.std.proofs.lemmas.List.{length_push, get_or-take}
+use Rattle.std.proofs.Common.{◌≡◌, ℕ, ◌+◌, ◌%◌, ◌^◌, ◌≤◌, min, max, List, length, take, false, Some, None, Option, refl, sym, ap, ◌∙◌, subst, ap₂, mod-eq_of_lt, arith, length-append}
+use Rattle.std.specs.Option.{is_some, ok_or}
+use Rattle.std.proofs.lemmas.List.{length_push}
 use Rattle.logic.specs.Rules.{Rule, Rules, rule, none, more}
 use Rattle.logic.specs.Rules as rules
-use Rattle.logic.specs.Store.{store, stores, number_of, numbers}
+use Rattle.logic.specs.Store.{store, stores, numbers}
 use Rattle.keys.specs.Limits.{most_names}
 use Rattle.keys.specs.Kept.{Front}
 use Rattle.keys.proofs.Numbering.{front_take}
-use Rattle.reader.specs.Outlines.{ended}
 use Rattle.reader.specs.declared.outline.End.{End}
-use Rattle.reader.specs.declared.outline.Outline.{Outline}
-use Rattle.book.specs.Limits.{most_records, most_bodies}
 use Rattle.book.specs.Books.{records_of, names_of, in_force_of, Shows, needed, CutBack}
 use Rattle.book.specs.Entering.{endings, all_endings, heads, many, LaidOut}
-use Rattle.book.specs.Entries.{Longer, RuleEntered}
+use Rattle.book.specs.Entries.{Longer, Refuses}
 use Rattle.book.specs.declared.book.Book.{Book}
+use Rattle.book.specs.declared.fault.BookFault.TheVariants.{TooManyRecords}
 use Rattle.book.specs.declared.number.RecordNumber.{RecordNumber}
 use Rattle.book.proofs.Adding.{length_records}
 use Rattle.book.proofs.Cutting.{needed_least}
@@ -36,31 +35,10 @@ mutual
 pub records_many : (r : Rule) (book : rules.Book) (ns : List ℕ) (es : List End) → LaidOut r ns es → length (store book r) ≡ length book + length es
 records_many r book ns es laid = store_many r book 0 ∙ ap (λ (x : List End). length book + length x) (sym laid.endings_are)
 
--- ---- no rule of an outline has too many bodies
-
-pub outline_few : (o : Outline) (es : List End) → es ≡ ended o → (i : ℕ) → i < length es → (get_or es i (record { mention = 0; bodies = 0 })).bodies ≤ most_bodies
-outline_few o es e i l =
-    let within : i < o.ended = omega (arith, l, ap length e, length-take o.ended o.ends) in
-    subst (λ (x : End). x.bodies ≤ most_bodies)
-    (sym (ap (λ (x : List End). get_or x i (record { mention = 0; bodies = 0 })) e ∙ get_or-take o.ended o.ends i (record { mention = 0; bodies = 0 }) within))
-    (o.few i within)
-
 -- ---- the book after it
 
 module _ (b b₁ b₂ : Book) (names : ℕ) (few : names ≤ most_names)
     (admitted : Shows b₁ (records_of b) (max (names_of b) (min names most_names)) (in_force_of b)) (longer : Longer b₁ b₂) where
-  pub rule_entered : (r : Rule) (n : RecordNumber) → length (store (records_of b) r) ≤ most_records
-      → (records_of b₂ ≡ store (records_of b₁) r) × (n.index ≡ number_of (records_of b₁) r) → RuleEntered b names r b₂ n
-  rule_entered r n room stored = record {
-    room = room;
-    number_is = stored.1 ∙ ap (λ (x : rules.Book). number_of x r) admitted.records;
-    book_is = record {
-      records = stored.0 ∙ ap (λ (x : rules.Book). store x r) admitted.records;
-      names = omega (arith, longer.names, admitted.names, few);
-      in_force = longer.in_force ∙ admitted.in_force;
-    };
-  }
-
   -- cut back to what it was
   pub given_back : (b₃ : Book) (records marked : ℕ) → records ≡ length (records_of b) → marked ≡ names_of b → CutBack b₂ records marked b₃
       → Shows b₃ (records_of b) (names_of b) (in_force_of b)
@@ -75,3 +53,9 @@ module _ (b b₁ b₂ : Book) (names : ℕ) (few : names ≤ most_names)
             cut.in_force ∙ ap₂ (λ (x y : ℕ). x % 2 ^ y) (longer.in_force ∙ admitted.in_force) (e ∙ length_records b)
             ∙ mod-eq_of_lt b.standing;
       }
+
+-- what is handed on: the number, or else the refusal
+pub refused : (b b' : Book) (o : Option RecordNumber) → (is_some o ≡ false → Shows b' (records_of b) (names_of b) (in_force_of b))
+    → Refuses b b' (ok_or o TooManyRecords)
+refused b b' (Some n) back = tt
+refused b b' None back = (refl, back refl)

@@ -1,7 +1,9 @@
 -- A book cut back keeps what is kept of a book.
-use Rattle.std.proofs.Common.{◌≡◌, ℕ, zero, suc, ◌+◌, ◌%◌, ◌^◌, ◌<◌, ◌≤◌, min, max, List, [], ◌∷◌, ◌++◌, map, length, get_or, take, sym, ap, ◌∙◌, subst, inl, inr, mod-eq_of_lt, arith}
+use Rattle.std.proofs.Common.{◌≡◌, ℕ, zero, suc, ◌+◌, ◌%◌, ◌^◌, ◌<◌, ◌≤◌, min, max, List, [], ◌∷◌, map, take, sym, ap, ◌∙◌, subst, inl, inr, mod-eq_of_lt, arith}
 use native.Mathlib.Nat.{pow-le-pow_right}
-use Rattle.std.proofs.lemmas.List.{take_more, map_push, take_all}
+use Rattle.std.proofs.lemmas.List.{take_all}
+use Rattle.std.specs.List.{fold, reduce}
+use Rattle.std.specs.Option.{unwrap_or}
 use Rattle.std.proofs.lemmas.Bool.{cases_lt}
 use Rattle.logic.specs.Rules as rules
 use Rattle.logic.specs.Rules.{head_of}
@@ -15,15 +17,16 @@ use Rattle.book.proofs.Stored.{length_stored, stored_cut, head_cut}
 
 -- ---- the names that the heads need
 
-needed_push : (book : rules.Book) (x : rules.Record) → needed (book ++ x ∷ []) ≡ max (needed book) (x.head + 1)
-needed_push [] x = omega arith
-needed_push (y ∷ book) x = omega (arith, needed_push book x)
+abbrev pub each_needs : List Record → List ℕ
+each_needs rs = map (λ (r : Record). r.head.index + 1) rs
 
-pub needed_next : (rs : List Record) (n : ℕ) (d : Record) → n < length rs
-    → needed (stored (n + 1) rs) ≡ max (needed (stored n rs)) ((get_or rs n d).head.index + 1)
-needed_next rs n d h =
-    ap (λ xs. needed (map record_of xs)) (take_more rs n d h) ∙ ap needed (map_push record_of (take n rs) (get_or rs n d))
-    ∙ needed_push (stored n rs) (record_of (get_or rs n d))
+most_needed : (n : ℕ) (rs : List Record) → fold max n (each_needs rs) ≡ max n (needed (map record_of rs))
+most_needed n [] = omega arith
+most_needed n (r ∷ rs) = omega (arith, most_needed (max n (r.head.index + 1)) rs)
+
+pub all_needed : (rs : List Record) → unwrap_or (reduce max (each_needs rs)) 0 ≡ needed (map record_of rs)
+all_needed [] = omega arith
+all_needed (r ∷ rs) = omega (arith, most_needed (r.head.index + 1) rs)
 
 -- each head is below that number
 pub below_needed : (book : rules.Book) → HeadsBelow (needed book) book

@@ -1,15 +1,12 @@
 -- The numbers of a rule's keys as a list.
-use Rattle.std.proofs.Common.{◌≡◌, ℕ, ◌+◌, ◌<◌, ◌≤◌, ◌≢◌, List, [], ◌∷◌, ◌++◌, length, get_or, take, set, sym, ap, ◌∙◌, arith, length-take, get_or-set_other, get_or-set_same, below_more}
-use Rattle.std.proofs.lemmas.List.{length-map, map-set, take_more_set, get_or-take, get_or-map}
+use Rattle.std.proofs.Common.{◌≡◌, ℕ, ◌+◌, ◌<◌, ◌≤◌, ◌≢◌, List, [], ◌∷◌, ◌++◌, length, get_or, take, set, ap, ◌∙◌, arith, length-take, get_or-set_other, get_or-set_same, below_more}
+use Rattle.std.proofs.lemmas.List.{length-map, map-set, take_more_set}
 use Rattle.keys.specs.declared.numbers.KeyNumber.{KeyNumber}
 use Rattle.book.specs.Indices.{indices}
 
 module _ (at : List KeyNumber) (n : ℕ) (whole : n ≤ length at) where
   pub many_are : length (take n (indices at)) ≡ n
   many_are = omega (arith, length-take n (indices at), length-map at (λ (k : KeyNumber). k.index))
-
-  pub one_is : (m : ℕ) (d : KeyNumber) → m < n → (get_or at m d).index ≡ get_or (take n (indices at)) m 0
-  one_is m d l = sym (get_or-take n (indices at) m 0 l ∙ get_or-map (λ (k : KeyNumber). k.index) at m d 0 (omega arith))
 
 module _ (at : List KeyNumber) (n : ℕ) (within : n < length at) (k : KeyNumber) where
   set_is : indices (set at n k) ≡ set (indices at) n k.index

@@ -1,11 +1,13 @@
 -- One more body.
-use Rattle.std.proofs.Common.{◌≡◌, ℕ, ◌+◌, ◌^◌, ◌<◌, List, [], ◌∷◌, ◌++◌, map, length, get_or, take, set, sym, ap, ◌∙◌, arith, length-take}
+use Rattle.std.proofs.Common.{◌≡◌, ℕ, ◌+◌, ◌^◌, ◌<◌, List, [], ◌∷◌, ◌++◌, map, length, get_or, take, Decides, nat_lt, refl, set, sym, ap, ◌∙◌, arith, length-take}
 use lib.Bits.{bit_or, or_zero_l, or_zero_r}
 use lib.ListN.{length-map}
 use Rattle.std.proofs.lemmas.List.{map-set, take_more_set, take_more, get_or-map, get_or-take}
+use Rattle.std.proofs.lemmas.Bool.Decides.{Decides-and, Decides-ltb}
+use Rattle.std.specs.List.{list_all}
 use Rattle.logic.specs.Sets.{mask, AllBelow}
 use Rattle.logic.proofs.Sets.{or_assoc}
-use Rattle.book.specs.Numbers.{listed}
+use Rattle.book.specs.Numbers.{record_indices, listed}
 use Rattle.book.specs.Records.{numbers}
 use Rattle.book.specs.declared.bodies.Bodies.{Bodies}
 use Rattle.book.specs.declared.number.RecordNumber.{RecordNumber}
@@ -24,6 +26,10 @@ pub numbers_length : (b : Bodies) → length (numbers b) ≡ b.len
 numbers_length b = simp (length-take, length-map) (omega (arith, b.whole, b.few))
 
 -- ---- all below a count
+
+pub below_tested : (n : ℕ) (rs : List RecordNumber) → Decides (list_all (λ (r : RecordNumber). nat_lt r.index n) rs) (AllBelow n (record_indices rs))
+below_tested n [] = (λ e. tt, λ h. refl)
+below_tested n (r ∷ rs) = Decides-and _ _ (Decides-ltb r.index n) (below_tested n rs)
 
 pub below_push : (n : ℕ) (bs : List ℕ) (b : ℕ) → AllBelow n bs → b < n → AllBelow n (bs ++ b ∷ [])
 below_push n [] b h l = (l, tt)

@@ -1,6 +1,6 @@
 -- The members of sets of records.
 use Rattle.std.proofs.Common.{◌≡◌, ℕ, zero, suc, ◌-◌, ◌/◌, ◌%◌, ◌^◌, ◌<◌, ◌≤◌, min, eqb, ◌↔◌, Decides, sym, refl, ap, ◌∙◌, subst, inl, inr, pow-suc, div-one, one-add, arith}
-use lib.Bits.{bit_and, and_step, and_shr, and_self, and_le_r, and_mask}
+use lib.Bits.{bit_and, and_step, and_shr, and_self, and_mask}
 use lib.Count.{count_trailing_zeros, under}
 use Rattle.std.proofs.lemmas.Nat.{shr-shr}
 use Rattle.std.proofs.lemmas.Bool.{cases_eq, eqb-true, eq-eqb}
@@ -100,10 +100,6 @@ has_cleared S (suc m) (suc k) l = up (has_cleared (S / 2) m k lower)
           λ h. let b = half.0 (sym e ∙ h) in (has_later S k ∙ b.0, omega (arith, b.1)),
           λ h. e ∙ half.1 (sym (has_later S k) ∙ h.0, omega (arith, h.1)),
         )
-
--- it is a smaller number
-pub cleared_less : (S : ℕ) → 0 < S → bit_and S (S - 1) < S
-cleared_less S h = omega (arith, and_le_r S (S - 1))
 
 -- a set with a member is not empty
 pub least_some : (S m : ℕ) → Least S m → 0 < S

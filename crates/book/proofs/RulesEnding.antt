@@ -1,6 +1,6 @@
 -- Rules end one after the other, and their records are put behind the others.
-use Rattle.std.proofs.Common.{◌≡◌, ℕ, ◌+◌, ◌<◌, ◌≤◌, List, [], ◌∷◌, ◌++◌, length, get_or, drop, Some, None, Option, sym, refl, ap, ◌∙◌, subst, ap₂, arith, length-take}
-use Rattle.std.proofs.lemmas.List.{length_push, drop_more, drop_all, same_from_push}
+use Rattle.std.proofs.Common.{◌≡◌, ℕ, ◌+◌, ◌<◌, ◌≤◌, List, [], ◌∷◌, ◌++◌, length, get_or, drop, sym, refl, ap, ◌∙◌, subst, ap₂, arith, length-take}
+use Rattle.std.proofs.lemmas.List.{length_push, drop_more}
 use Rattle.logic.specs.Sets.{AllBelow}
 use Rattle.logic.specs.Rules.{Rule}
 use Rattle.logic.specs.Store.{store, number_of}
@@ -8,9 +8,8 @@ use Rattle.keys.proofs.Numbering.{front_self, front_trans}
 use Rattle.reader.specs.declared.outline.End.{End}
 use Rattle.book.specs.Books.{records_of}
 use Rattle.book.specs.Entering.{LaidOut}
-use Rattle.book.specs.Entries.{others, Last, RuleEnds, Longer, Stored}
+use Rattle.book.specs.Entries.{others, RuleEnds, Longer}
 use Rattle.book.specs.declared.book.Book.{Book}
-use Rattle.book.specs.declared.number.RecordNumber.{RecordNumber}
 use Rattle.book.proofs.Building.{Built, Builds, step, laid_out_builds}
 use Rattle.book.proofs.Listing.{below_push}
 use Rattle.book.proofs.Waits.{below_take, below_longer}
@@ -75,18 +74,3 @@ module _ (b₀ b : Book) (ws ns : List ℕ) (es : List End) (i : ℕ) (d : End) 
               book = sym e.book_is.records j;
               waiting = (ap₂ (λ (x : List ℕ) (y : ℕ). x ++ y ∷ []) (sym e.waiting_are) (sym e.number_is) ∙ sym waits) j;
             }
-
-    -- none of a rule's ends lacks its head or its bodies
-    pub none_lacks : ((get_or es i d).mention < length ns → (get_or es i d).bodies ≤ length ws → ⊥) → (r : Rule) → LaidOut r ns es → ⊥
-    none_lacks lacks r laid = let ready = (next_builds r laid).0 in lacks ready.head ready.bodies
-
-  -- all have ended
-  pub all_ended : length es ≤ i → (o : Option RecordNumber) → Last ws o → Stored ns es b₀ b o
-  all_ended past (Some n) last = λ r laid.
-      let built : here b ws ≡ there b₀ r = subst (λ (x : List End). Builds ns (here b ws) x (there b₀ r)) (drop_all i es past) (so_far.builds r laid) in (
-        ap (λ (s : Built). s.book) built,
-        (same_from_push last.0 [] n.index (number_of (records_of b₀) r) (sym last.1 ∙ ap (λ (s : Built). s.waiting) built)).1,
-      )
-  all_ended past None last = λ r laid.
-      let built : here b ws ≡ there b₀ r = subst (λ (x : List End). Builds ns (here b ws) x (there b₀ r)) (drop_all i es past) (so_far.builds r laid) in
-      omega (arith, ap length last, ap (λ (s : Built). length s.waiting) built)

@@ -1,14 +1,11 @@
 -- The set at a place of a list of sets.
-use Rattle.std.proofs.Common.{◌≡◌, ℕ, zero, suc, ◌<◌, ◌≤◌, List, length, get_or, set, replicate, refl, ap}
-use Rattle.std.proofs.lemmas.List.{get_or-set_same, get_or-set_other, get_or_default, get_or_past}
+use Rattle.std.proofs.Common.{◌≡◌, ℕ, zero, suc, ◌<◌, List, length, set, replicate, refl, ap}
+use Rattle.std.proofs.lemmas.List.{get_or-set_same, get_or-set_other}
 use Rattle.book.specs.Records.{set_at}
 use Rattle.book.specs.declared.record_set.RecordSet.{RecordSet}
 
 abbrev none : RecordSet
 none = record { bits = 0 }
-
-pub set_there : (sets : List RecordSet) (x : ℕ) (d : RecordSet) → x < length sets → (get_or sets x d).bits ≡ set_at sets x
-set_there sets x d h = ap (λ (S : RecordSet). S.bits) (get_or_default sets x d none h)
 
 pub set_at_same : (sets : List RecordSet) (x : ℕ) (S : RecordSet) → x < length sets → set_at (set sets x S) x ≡ S.bits
 set_at_same sets x S h = ap (λ (V : RecordSet). V.bits) (get_or-set_same sets x S none h)
@@ -20,6 +17,3 @@ pub set_at_none : (n : ℕ) (S : RecordSet) (x : ℕ) → S.bits ≡ 0 → set_a
 set_at_none zero S x e = refl
 set_at_none (suc n) S zero e = e
 set_at_none (suc n) S (suc x) e = set_at_none n S x e
-
-pub set_at_past : (sets : List RecordSet) (x : ℕ) → length sets ≤ x → set_at sets x ≡ 0
-set_at_past sets x h = ap (λ (S : RecordSet). S.bits) (get_or_past sets x none h)

@@ -1,6 +1,5 @@
 -- What stands at the place of a record in use is the record of the book.
 use Rattle.std.proofs.Common.{◌≡◌, ℕ, ◌<◌, ◌≤◌, length, get_or, sym, ap, arith}
-use Rattle.std.proofs.lemmas.List.{get_or_default}
 use Rattle.logic.specs.Rules as rules
 use Rattle.logic.specs.Rules.{head_of, bodies_of, blank, WellFormed}
 use Rattle.book.specs.Books.{records_of}
@@ -11,10 +10,6 @@ use Rattle.book.specs.declared.record.Record.{Record}
 use Rattle.book.proofs.Adding.{length_records}
 use Rattle.book.proofs.Kept.{all_below}
 use Rattle.book.proofs.Stored.{stored_at}
-
--- a place within the array holds one record
-pub one_place : (b : Book) (r : ℕ) → r < most_records → (d e : Record) → get_or b.records r d ≡ get_or b.records r e
-one_place b r h d e = get_or_default b.records r d e (omega (arith, b.whole))
 
 told : (b : Book) (r : ℕ) (d : Record) → r < length (records_of b) → record_of (get_or b.records r d) ≡ get_or (records_of b) r blank
 told b r d h = sym (stored_at b.count r b.records d (omega (arith, length_records b)) (omega (arith, length_records b, b.few, b.whole)))

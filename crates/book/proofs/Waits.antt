@@ -1,36 +1,29 @@
 -- The records that wait, as a list.
-use Rattle.std.proofs.Common.{◌≡◌, ℕ, zero, suc, ◌+◌, ◌-◌, ◌<◌, ◌≤◌, List, [], ◌∷◌, ◌++◌, map, length, get_or, take, drop, sym, ap, ◌∙◌, arith, length-drop, length-take}
-use lib.ListN.{length-map}
-use Rattle.std.proofs.lemmas.List.{take-take, drop_all, drop-append-le}
+use Rattle.std.proofs.Common.{◌≡◌, ℕ, zero, suc, ◌-◌, ◌≤◌, List, [], ◌∷◌, length, take, drop, sym, ap, ◌∙◌, arith, length-drop}
+use Rattle.std.proofs.lemmas.List.{length-map, take-map, drop-map, take_all}
 use Rattle.logic.specs.Sets.{AllBelow}
-use Rattle.book.specs.Numbers.{listed}
+use Rattle.book.specs.Numbers.{record_indices}
 use Rattle.book.specs.Entries.{others}
 use Rattle.book.specs.declared.number.RecordNumber.{RecordNumber}
-use Rattle.book.proofs.Listing.{listed_next}
 
-pub length_listed : (n : ℕ) (at : List RecordNumber) → n ≤ length at → length (listed n at) ≡ n
-length_listed n at h = simp (length-take, length-map) (omega arith)
+length_indices : (rs : List RecordNumber) → length (record_indices rs) ≡ length rs
+length_indices rs = length-map rs (λ (r : RecordNumber). r.index)
 
-module _ (at : List RecordNumber) (from : ℕ) where
-  pub none_from : from ≤ length at → [] ≡ drop from (listed from at)
-  none_from h = sym (drop_all from (listed from at) (omega (arith, length_listed from at h)))
+-- ---- the last of those that wait, where so many go on waiting
 
-  pub next_from : (i : ℕ) (d : RecordNumber) (ns ns' : List ℕ) → from ≤ i → i < length at → ns ≡ drop from (listed i at)
-      → ns' ≡ ns ++ (get_or at i d).index ∷ [] → ns' ≡ drop from (listed (i + 1) at)
-  next_from i d ns ns' l h e f =
-      f ∙ ap (λ (x : List ℕ). x ++ (get_or at i d).index ∷ []) e
-      ∙ sym (ap (drop from) (listed_next at i d h) ∙ drop-append-le from (listed i at) ((get_or at i d).index ∷ []) (omega (arith, length_listed i at (omega arith))))
+module _ (rs : List RecordNumber) (count left : ℕ) (left_is : left ≡ length rs - count) where
+  others_are : others (record_indices rs) count ≡ left
+  others_are = ap (λ (n : ℕ). n - count) (length_indices rs) ∙ sym left_is
 
-  pub many_from : (i : ℕ) → i ≤ length at → length (drop from (listed i at)) ≡ i - from
-  many_from i h = length-drop from (listed i at) ∙ ap (λ (n : ℕ). n - from) (length_listed i at h)
+  pub others_left : (rs' : List RecordNumber) → rs' ≡ take left rs → record_indices rs' ≡ take (others (record_indices rs) count) (record_indices rs)
+  others_left rs' e =
+      ap record_indices e ∙ sym (take-map (λ (r : RecordNumber). r.index) left rs) ∙ ap (λ (n : ℕ). take n (record_indices rs)) (sym others_are)
 
--- so many go on waiting
-pub others_are : (at : List RecordNumber) (n count : ℕ) → n ≤ length at → others (listed n at) count ≡ n - count
-others_are at n count h = ap (λ (m : ℕ). m - count) (length_listed n at h)
-
-pub others_left : (at : List RecordNumber) (n count : ℕ) → n ≤ length at → listed (n - count) at ≡ take (others (listed n at) count) (listed n at)
-others_left at n count h =
-    sym (ap (λ (m : ℕ). take m (listed n at)) (others_are at n count h) ∙ take-take (n - count) n (map (λ (r : RecordNumber). r.index) at) (omega arith))
+  pub last_taken : (n : ℕ) → length (take (length rs - left) (drop left rs)) ≤ n → take n (record_indices (take (length rs - left) (drop left rs))) ≡ drop (others (record_indices rs) count) (record_indices rs)
+  last_taken n past =
+      take_all n _ (omega (arith, length_indices (take (length rs - left) (drop left rs))))
+      ∙ ap record_indices (take_all (length rs - left) (drop left rs) (omega (arith, length-drop left rs)))
+      ∙ sym (drop-map (λ (r : RecordNumber). r.index) left rs) ∙ ap (λ (n : ℕ). drop n (record_indices rs)) (sym others_are)
 
 -- ---- all below a count
 

@@ -29,6 +29,10 @@ pub record Shows (b : Book) (book : rules.Book) (n S : ℕ) : Type 0 where
 abbrev pub HeadsBelow : ℕ → rules.Book → Type 0
 HeadsBelow n book = (r : ℕ) → r < length book → rules.head_of book r < n
 
+-- the record is in use
+abbrev pub InUse : Book → ℕ → Type 0
+InUse b r = r < length (records_of b)
+
 -- so many names the heads need
 abbrev pub needed : rules.Book → ℕ
 needed [] = 0
@@ -49,7 +53,7 @@ Pushed b head bodies b' None = (MayStand b head bodies → ⊥) × (b' ≡ b)
 
 -- a record in use is put in force; another changes nothing
 pub record PutInForce (b : Book) (r : ℕ) (b' : Book) : Type 0 where
-  pub standing : r < length (records_of b) → Shows b' (records_of b) (names_of b) (bit_or (in_force_of b) (2 ^ r))
+  pub standing : InUse b r → Shows b' (records_of b) (names_of b) (bit_or (in_force_of b) (2 ^ r))
   pub absent : length (records_of b) ≤ r → b' ≡ b
 
 -- cut back to the first so many records and names, but to no fewer names than the heads that are left need

@@ -5,7 +5,6 @@ use Rattle.logic.specs.Store.{store, number_of}
 use Rattle.reader.specs.declared.outline.End.{End}
 use Rattle.keys.specs.Kept.{Front}
 use Rattle.book.specs.Limits.{most_records, most_bodies}
-use Rattle.book.specs.Numbers.{listed}
 use Rattle.book.specs.Records.{numbers}
 use Rattle.book.specs.Books.{records_of, names_of, in_force_of, Shows}
 use Rattle.book.specs.Entering.{LaidOut}
@@ -14,11 +13,6 @@ use Rattle.book.specs.declared.number.RecordNumber.{RecordNumber}
 use Rattle.book.specs.declared.book.Book.{Book}
 use Rattle.book.specs.declared.fault.BookFault.{BookFault}
 use Rattle.book.specs.declared.fault.BookFault.TheVariants.{TooManyRecords}
-use Rattle.book.specs.declared.waiting.Waiting.{Waiting}
-
--- the records that wait, in the order in which their rules ended
-abbrev pub waiting_in : Waiting → List ℕ
-waiting_in w = listed w.len w.at
 
 -- so many of those that wait go on waiting when the last are taken as bodies
 abbrev pub others : List ℕ → ℕ → ℕ
@@ -28,11 +22,6 @@ others ws count = length ws - count
 abbrev pub Taken : List ℕ → ℕ → List ℕ → Option Bodies → Type 0
 Taken ws count ws' (Some b) = (count ≤ length ws) × (numbers b ≡ drop (others ws count) ws) × (ws' ≡ take (others ws count) ws)
 Taken ws count ws' None = count ≤ length ws → count ≤ most_bodies → ⊥
-
--- the one that waits
-abbrev pub Last : List ℕ → Option RecordNumber → Type 0
-Last ws (Some n) = (rest : List ℕ) × (ws ≡ rest ++ n.index ∷ [])
-Last ws None = ws ≡ []
 
 -- a rule has ended: its record stands behind the others, with the last of those that waited as bodies
 pub record RuleEnds (ns ws : List ℕ) (e : End) (b : Book) (ws' : List ℕ) (b' : Book) (n : ℕ) : Type 0 where

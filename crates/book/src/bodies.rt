@@ -11,6 +11,8 @@ use crate::record_set::RecordSet;
 pub const BODIES: usize = reader::limits::BODIES as usize;
 
 /// The records of a rule's bodies, in order, and as a set.
+// It is Copy and takes no heap, so it is an array with its length beside it; the list is read through `as_slice`.
+// The set is kept beside the list, not made at each query: a supposition is one `or`.
 #[derive(Clone, Copy)]
 pub struct Bodies {
     pub set: RecordSet,

@@ -14,6 +14,9 @@ use keys::NAMES;
 
 /// The records in use, by number; for each name the records that it heads; how many records and names are in use; and
 /// the records in force.
+// It is Copy and takes no heap, so it is arrays with how much of them is in use beside them.
+// `heads` repeats what the records say, so that a query meets only the rules with its head.
+// `count` and `names` are no `Mark`: the invariants read them apart.
 #[derive(Clone, Copy)]
 pub struct Book {
     pub(crate) records: [Record; RECORDS],
@@ -34,7 +37,7 @@ pub struct Book {
 }
 
 /// How many records and names are in use at some time.
-#[derive(Clone, Copy)]
+#[derive(Clone, Copy, Default)]
 pub struct Mark {
     pub records: u8,
     pub names: u8,

@@ -17,7 +17,7 @@ impl Book {
         ensures { Shows result [] 0 0 }
     {
         let blank = Record {
-            head: KeyNumber { index: 0 },
+            head: KeyNumber::default(),
             bodies: Bodies::none(),
         };
         Book {
@@ -33,10 +33,7 @@ impl Book {
     pub fn admit(&mut self, names: usize)
         ensures { Shows self.new (records_of self.old) (max (names_of self.old) (min names most_names)) (in_force_of self.old) }
     {
-        let names = names.min(NAMES) as u8;
-        if self.names < names {
-            self.names = names;
-        }
+        self.names = self.names.max(names.min(NAMES) as u8);
     }
 
     /// Puts a record that is in use in force.
@@ -68,10 +65,7 @@ impl Book {
     pub fn may_stand(&self, head: KeyNumber, bodies: &Bodies) -> bool
         ensures { Decides result (MayStand self.now head.index (numbers bodies.now)) }
     {
-        if self.count as usize >= RECORDS || head.index >= self.names {
-            return false;
-        }
-        bodies.all_below(self.count)
+        (self.count as usize) < RECORDS && head.index < self.names && bodies.all_below(self.count)
     }
 
     /// How many records and names are in use now.
@@ -101,11 +95,11 @@ impl Book {
         requires { count ≤ self.now.count }
         ensures { result ≡ needed (stored count self.now.records) }
     {
-        let mut needed = 0;
-        for i in 0..count {
-            needed = needed.max(self.records[i as usize].head.index + 1);
-        }
-        needed
+        self.records[..count as usize]
+            .iter()
+            .map(|record| record.head.index + 1)
+            .max()
+            .unwrap_or(0)
     }
 }
 
@@ -114,7 +108,7 @@ fn cut(sets: &mut [RecordSet; NAMES], count: u8)
     ensures sets { (x : ℕ) → set_at sets.new x ≡ set_at sets.old x % 2 ^ count }
     ensures length { length sets.new ≡ length sets.old }
 {
-    for x in 0..NAMES {
-        sets[x] = sets[x].below(count);
+    for set in sets.iter_mut() {
+        *set = set.below(count);
     }
 }

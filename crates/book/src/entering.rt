@@ -6,63 +6,33 @@ ghost use Rattle.reader.specs.Outlines.{ended};
 ghost use Rattle.book.specs.Limits.{most_records, most_bodies};
 ghost use Rattle.book.specs.Books.{records_of, names_of};
 ghost use Rattle.book.specs.Entering.{LaidOut};
-ghost use Rattle.book.specs.Entries.{waiting_in, Taken, Last, EndsRule, Longer, Stored, EntersRule, Refuses};
+ghost use Rattle.book.specs.Entries.{Taken, EndsRule, Longer, Stored, EntersRule, Refuses};
 ghost use Rattle.book.specs.KeyLists.{numbers_in};
+ghost use Rattle.book.specs.Numbers.{record_indices};
 
 use crate::bodies::Bodies;
 use crate::book::Book;
 use crate::fault::BookFault;
 use crate::key_numbers::KeyNumbers;
 use crate::number::{RECORDS, RecordNumber};
-use crate::waiting::Waiting;
+use arrayvec::ArrayVec;
 use reader::{End, Outline};
 
-impl Waiting {
-    /// None waits.
-    fn none() -> Waiting
-        ensures { waiting_in result ≡ [] }
-    {
-        Waiting {
-            at: [RecordNumber { index: 0 }; RECORDS],
-            len: 0,
-        }
-    }
+/// The records of rules that have ended, while the rule whose bodies they are has not, in the order of their ends.
+type Waiting = ArrayVec<RecordNumber, RECORDS>;
 
-    /// Takes the last of those that wait as bodies, or nothing where there are fewer, or too many for a rule.
-    fn take(&mut self, count: u8) -> Option<Bodies>
-        ensures { Taken (waiting_in self.old) count (waiting_in self.new) result }
-    {
-        let count = count as usize;
-        if self.len < count {
-            return None;
-        }
-        let from = self.len - count;
-        let mut bodies = Bodies::none();
-        for i in from..self.len {
-            bodies = bodies.with(self.at[i])?;
-        }
-        self.len = from;
-        Some(bodies)
+/// Takes the last of those that wait as bodies, or nothing where there are fewer, or too many for a rule.
+fn take(waiting: &mut Waiting, count: u8) -> Option<Bodies>
+    ensures { Taken (record_indices waiting.old.items) count (record_indices waiting.new.items) result }
+{
+    let others = waiting.len().checked_sub(count as usize)?;
+    // A loop with `?`: a `try_fold` would carry the same bodies through a closure.
+    let mut bodies = Bodies::none();
+    for body in &waiting[others..] {
+        bodies = bodies.with(*body)?;
     }
-
-    /// One more waits.
-    fn put(&mut self, number: RecordNumber)
-        requires { length (waiting_in self.old) < most_records }
-        ensures { waiting_in self.new ≡ waiting_in self.old ++ number.index ∷ [] }
-    {
-        self.at[self.len] = number;
-        self.len += 1;
-    }
-
-    /// The last that waits.
-    fn last(&self) -> Option<RecordNumber>
-        ensures { Last (waiting_in self.now) result }
-    {
-        if self.len == 0 {
-            return None;
-        }
-        Some(self.at[self.len - 1])
-    }
+    waiting.truncate(others);
+    Some(bodies)
 }
 
 impl Book {
@@ -82,13 +52,13 @@ impl Book {
         }
         let mark = self.mark();
         self.admit(numbers.names());
-        match self.enter_rules(ends, numbers) {
-            Some(number) => Ok(number),
-            None => {
-                self.truncate(mark);
-                Err(BookFault::TooManyRecords)
-            }
+        let entered = self.enter_rules(ends, numbers);
+        // No closure: one that cuts back would keep to itself what it changes.
+        if entered.is_none() {
+            self.truncate(mark);
         }
+        // The outline of a rule, with the numbers of its keys, never comes to nothing: of it a refusal says want of room alone.
+        entered.ok_or(BookFault::TooManyRecords)
     }
 
     /// Enters rules in the order in which they end, and gives the number of the last.
@@ -99,12 +69,12 @@ impl Book {
         ensures stored { Stored (numbers_in numbers.now) ends.now self.old self.new result }
         ensures longer { Longer self.old self.new }
     {
-        let mut waiting = Waiting::none();
+        let mut waiting = Waiting::new();
         for end in ends {
             let number = self.enter_rule(*end, numbers, &mut waiting)?;
-            waiting.put(number);
+            waiting.push(number);
         }
-        waiting.last()
+        waiting.last().copied()
     }
 
     /// Enters a rule that has ended, with the last of those that wait as its bodies.
@@ -116,12 +86,12 @@ impl Book {
     ) -> Option<RecordNumber>
         requires room { length (records_of self.old) < most_records }
         requires named { numbers.now.names ≤ names_of self.old }
-        requires earlier { AllBelow (length (records_of self.old)) (waiting_in waiting.old) }
+        requires earlier { AllBelow (length (records_of self.old)) (record_indices waiting.old.items) }
         requires few_bodies { end.bodies ≤ most_bodies }
-        ensures { EndsRule (numbers_in numbers.now) (waiting_in waiting.old) end self.old (waiting_in waiting.new) self.new result }
+        ensures { EndsRule (numbers_in numbers.now) (record_indices waiting.old.items) end self.old (record_indices waiting.new.items) self.new result }
     {
         let head = numbers.get(end.mention)?;
-        let bodies = waiting.take(end.bodies)?;
+        let bodies = take(waiting, end.bodies)?;
         self.push(head, bodies)
     }
 }

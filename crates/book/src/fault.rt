@@ -1,8 +1,9 @@
-//! Why a book refuses.
+//! The refusals of a book.
 ghost use Rattle.std.specs.Prelude.{◌≡◌};
 ghost use Rattle.book.specs.Faults.{fault_number};
 
-/// Why a book refuses. The place is always 0.
+/// Why a book refuses: a rule for want of room, which the book finds itself, or a supposition or its end, which the service
+/// finds, as it counts the suppositions. No refusal is of a place in a text: its place is always 0.
 #[derive(Clone, Copy, PartialEq, Debug)]
 pub enum BookFault {
     /// There would be more than 128 records.

@@ -8,6 +8,7 @@ use keys::KeyNumber;
 use reader::limits::HEADS;
 
 /// The numbers of a rule's keys in the order of the text, and how many names are then in use.
+// It is Copy and takes no heap, so it is an array with its length beside it; it is read through `as_slice`.
 #[derive(Clone, Copy)]
 pub struct KeyNumbers {
     pub(crate) at: [KeyNumber; HEADS],

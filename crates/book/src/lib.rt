@@ -8,6 +8,7 @@ mod entering;
 mod fault;
 mod key_numbers;
 mod lookups;
+mod members;
 mod mentions;
 mod number;
 mod numbering;
@@ -15,13 +16,13 @@ mod record;
 mod record_set;
 #[cfg(test)]
 mod tests;
-mod waiting;
 
 pub use bodies::{BODIES, Bodies};
 pub use book::{Book, Mark};
 pub use fault::BookFault;
 pub use key_numbers::KeyNumbers;
 pub use lookups::book_is_well_formed;
+pub use members::Members;
 pub use number::{RECORDS, RecordNumber};
 pub use numbering::{number_keys, numbers_lay_out};
 pub use record::Record;

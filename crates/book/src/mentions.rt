@@ -1,5 +1,6 @@
 //! What the numbers of a rule's keys tell.
 ghost use Rattle.std.specs.Prelude.{◌≡◌};
+ghost use Rattle.book.specs.Indices.{indices};
 ghost use Rattle.book.specs.KeyLists.{numbers_in, Mentioned};
 
 use crate::key_numbers::KeyNumbers;
@@ -10,12 +11,14 @@ impl KeyNumbers {
     pub fn get(&self, mention: u16) -> Option<KeyNumber>
         ensures { Mentioned (numbers_in self.now) mention result }
     {
-        let mention = mention as usize;
-        if mention < self.count {
-            Some(self.at[mention])
-        } else {
-            None
-        }
+        self.as_slice().get(mention as usize).copied()
+    }
+
+    /// The numbers, in order.
+    fn as_slice(&self) -> &[KeyNumber]
+        ensures { indices result.now ≡ numbers_in self.now }
+    {
+        &self.at[..self.count]
     }
 
     /// How many names are in use.

@@ -1,5 +1,6 @@
 //! The first step of entering a rule: its keys get their numbers.
-ghost use Rattle.std.specs.Prelude.{◌≡◌, ℕ, ◌+◌, ◌<◌, ◌≤◌, List, [], ◌∷◌, ◌++◌, length};
+ghost use Rattle.std.specs.Prelude.{◌≡◌, ℕ, ◌+◌, ◌<◌, ◌≤◌, List, [], ◌∷◌, ◌++◌, length, IfOk};
+ghost use Rattle.keys.specs.Kept.{Front};
 ghost use Rattle.keys.specs.Limits.{most_names};
 ghost use Rattle.keys.specs.Registers.{keys_in, slots_of, room};
 ghost use Rattle.reader.specs.Limits.{most_heads};
@@ -20,7 +21,7 @@ impl KeyNumbers {
         ensures names { result.names ≡ names }
     {
         KeyNumbers {
-            at: [KeyNumber { index: 0 }; HEADS],
+            at: [KeyNumber::default(); HEADS],
             count: 0,
             names,
         }
@@ -54,24 +55,36 @@ pub fn number_keys<K: Written + Copy>(
     ensures slots { slots_of register.new ≡ slots_of register.old }
 {
     let before = register.used();
-    let mut numbers = KeyNumbers::none(before);
-    let places = outline.places();
-    for place in places {
+    let numbers = enter_keys(register, bytes, outline);
+    // No closure: one that cuts back would keep to itself what it changes.
+    if numbers.is_err() {
+        register.truncate(before);
+    }
+    numbers
+}
+
+/// Enters the keys of the rule that the bytes are read as, in the order of the text, up to the first for which there is no
+/// room, and gives their numbers.
+fn enter_keys<K: Written + Copy>(
+    register: &mut Register<'_, K>,
+    bytes: &[u8],
+    outline: &Outline,
+) -> Result<KeyNumbers, RegisterFault>
+    ensures numbers { (w : WrittenRule K) → K.reading bytes.now ≡ reads w → IsOutline w outline.now → Numbers K.same (room (slots_of register.old)) (keys_in register.old) w (keys_in register.new) result }
+    ensures kept { Front (keys_in register.old) (keys_in register.new) }
+    ensures names { IfOk result (λ ns. ns.names ≡ length (keys_in register.new)) }
+    ensures slots { slots_of register.new ≡ slots_of register.old }
+{
+    let mut numbers = KeyNumbers::none(register.used());
+    for place in outline.places() {
         let place = *place as usize;
-        match register.enter(K::key_at(bytes, place), place) {
-            Ok(number) => numbers.push(number, register.used()),
-            Err(fault) => {
-                register.truncate(before);
-                return Err(fault);
-            }
-        }
+        let number = register.enter(K::key_at(bytes, place), place)?;
+        numbers.push(number, register.used());
     }
     Ok(numbers)
 }
 
 /// A rule as written, with the numbers of its keys, is the one that its outline and these numbers lay out.
-pub fn numbers_lay_out<K>() -> u8
+pub fn numbers_lay_out<K>()
     ensures { NumberedLaidOut K }
-{
-    0
-}
+{}

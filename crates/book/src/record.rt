@@ -1,6 +1,7 @@
 //! A rule or a body as it is stored.
 ghost use Rattle.std.specs.Prelude.{◌≡◌, [], Decides};
 ghost use Rattle.logic.specs.Sets.{AllBelow};
+ghost use Rattle.book.specs.Numbers.{record_indices};
 ghost use Rattle.book.specs.Records.{numbers, OneMore};
 
 use crate::bodies::{BODIES, Bodies};
@@ -22,7 +23,7 @@ impl Bodies {
     {
         Bodies {
             set: RecordSet::EMPTY,
-            at: [RecordNumber { index: 0 }; BODIES],
+            at: [RecordNumber::default(); BODIES],
             len: 0,
         }
     }
@@ -43,15 +44,17 @@ impl Bodies {
         })
     }
 
+    /// The bodies, in order.
+    pub fn as_slice(&self) -> &[RecordNumber]
+        ensures { record_indices result.now ≡ numbers self.now }
+    {
+        &self.at[..self.len as usize]
+    }
+
     /// Tells whether all bodies are below a count.
     pub fn all_below(&self, count: u8) -> bool
         ensures { Decides result (AllBelow count (numbers self.now)) }
     {
-        for i in 0..self.len {
-            if self.at[i as usize].index >= count {
-                return false;
-            }
-        }
-        true
+        self.as_slice().iter().all(|body| body.index < count)
     }
 }

@@ -32,6 +32,7 @@ impl RecordSet {
     }
 
     /// The records of either set.
+    // A name, since it says more than `|`.
     pub fn union(self, other: RecordSet) -> RecordSet
         ensures { result.bits ≡ bit_or self.bits other.bits }
     {
@@ -41,6 +42,7 @@ impl RecordSet {
     }
 
     /// The records of both sets.
+    // A name, since it says more than `&`.
     pub fn common(self, other: RecordSet) -> RecordSet
         ensures { (k : ℕ) → Has result.bits k ↔ (Has self.bits k × Has other.bits k) }
     {
@@ -50,10 +52,11 @@ impl RecordSet {
     }
 
     /// Tells whether the sets have the same records.
+    // The derived `==`, with the promise that it decides this.
     pub fn equals(self, other: RecordSet) -> bool
         ensures { Decides result (self.bits ≡ other.bits) }
     {
-        self.bits == other.bits
+        self == other
     }
 
     /// Tells whether the set has no records.

@@ -10,16 +10,12 @@ fn records_come_and_go(rt: HostRuntime) -> Result<(), Fail> {
     let mut book = Book::empty();
     assert!(rt; book.push(a, Bodies::none()).is_none(), "no name is in use");
     book.admit(2);
-    let Some(first) = book.push(a, Bodies::none()) else {
-        return Err(Fail::new("full"));
-    };
+    let first = book
+        .push(a, Bodies::none())
+        .ok_or_else(|| Fail::new("full"))?;
     let mark = book.mark();
-    let Some(bodies) = Bodies::none().with(first) else {
-        return Err(Fail::new("full"));
-    };
-    let Some(second) = book.push(b, bodies) else {
-        return Err(Fail::new("full"));
-    };
+    let bodies = Bodies::none().with(first).ok_or_else(|| Fail::new("full"))?;
+    let second = book.push(b, bodies).ok_or_else(|| Fail::new("full"))?;
     book.put_in_force(second);
     assert_eq!(rt; book.with_head(b).bits, 2);
     assert_eq!(rt; book.supposing(RecordSet::EMPTY, second).bits, 1);
@@ -32,17 +28,12 @@ fn records_come_and_go(rt: HostRuntime) -> Result<(), Fail> {
 
 /// The number of the record of a text, or of the refusal.
 fn entered(book: &mut Book, register: &mut Register<'_, Name>, text: &[u8]) -> Result<u8, u8> {
-    let Ok(outline) = Name::outline(text) else {
-        return Err(0);
-    };
-    let numbers = match number_keys(register, text, &outline) {
-        Ok(numbers) => numbers,
-        Err(fault) => return Err(fault.number()),
-    };
-    match book.enter(&outline, &numbers) {
-        Ok(number) => Ok(number.index),
-        Err(fault) => Err(fault.number()),
-    }
+    let outline = Name::outline(text).map_err(|_| 0)?;
+    let numbers = number_keys(register, text, &outline).map_err(|fault| fault.number())?;
+    let number = book
+        .enter(&outline, &numbers)
+        .map_err(|fault| fault.number())?;
+    Ok(number.index)
 }
 
 #[test]
@@ -73,9 +64,7 @@ fn records_are_numbered_as_rules_end(rt: HostRuntime) {
 /// Enters `a` so many times, and gives the first refusal.
 fn filled(book: &mut Book, register: &mut Register<'_, Name>, times: u8) -> Result<u8, u8> {
     for _ in 0..times {
-        if let Err(number) = entered(book, register, b"a") {
-            return Err(number);
-        }
+        entered(book, register, b"a")?;
     }
     Ok(times)
 }
@@ -91,4 +80,12 @@ fn has_128_records(rt: HostRuntime) {
     assert_eq!(rt; entered(&mut book, &mut register, b"a"), Ok(127));
     assert_eq!(rt; entered(&mut book, &mut register, b"a"), Err(21));
     assert_eq!(rt; entered(&mut book, &mut register, b"b"), Err(11));
+}
+
+#[test]
+fn members_come_by_rising_number(rt: HostRuntime) {
+    let mut members = RecordSet { bits: 0b1001 }.into_iter();
+    assert_eq!(rt; members.next(), Some(RecordNumber { index: 0 }));
+    assert_eq!(rt; members.next(), Some(RecordNumber { index: 3 }));
+    assert_eq!(rt; members.next(), None);
 }

@@ -1,33 +1,22 @@
 -- Whether a rule holds at a release of a lawful chart can be decided.
-use Rattle.std.proofs.Common.{◌≡◌, ℕ, zero, suc, ◌<◌, sym, subst, not-suc-le-zero, arith}
-use native.Mathlib.Decide.{ℕ_discrete}
+use Rattle.std.proofs.Common.{ℕ, ◌<◌, ◌⊎◌, inl, inr, ⊎_elim}
+use mathlib.Core.Logic.Dec.{and as both_decided}
 use Rattle.logic.specs.Rules.{Rule, Rules, rule, none, more}
 use Rattle.logic.specs.Charts.{Chart, Lawful, Follows, Carries, Holds, AllHold}
-use Rattle.logic.proofs.Tests.{dec_T}
+use Rattle.logic.proofs.Tests.{dec_T, found_or_all}
 
 -- a decided statement can be decided at all numbers below n
 dec_below : (P : ℕ → Type 0) → ((v : ℕ) → Dec (P v)) → (n : ℕ) → Dec ((v : ℕ) → v < n → P v)
-dec_below P d zero = yes (λ v l. absurd (not-suc-le-zero l))
-dec_below P d (suc n) = go (d n) (dec_below P d n)
+dec_below P d n = ⊎_elim (λ i. no (λ k. i.2 (k i.0 i.1))) (λ all. yes all) (found_or_all n (λ v. ¬ P v) P (λ v. either (d v)))
   where
-    at : P n → ((v : ℕ) → v < n → P v) → (v : ℕ) → v < suc n → Dec (v ≡ n) → P v
-    at p h v l (yes e) = subst P (sym e) p
-    at p h v l (no e) = h v (omega arith)
-
-    go : Dec (P n) → Dec ((v : ℕ) → v < n → P v) → Dec ((v : ℕ) → v < suc n → P v)
-    go (yes p) (yes h) = yes (λ v l. at p h v l (ℕ_discrete v n))
-    go (yes p) (no h) = no (λ k. h (λ v l. k v (omega arith)))
-    go (no p) c = no (λ k. p (k n (omega arith)))
+    either : {A : Type 0} → Dec A → (¬ A) ⊎ A
+    either (yes a) = inr a
+    either (no h) = inl h
 
 dec_to : {A B : Type 0} → Dec A → Dec B → Dec (A → B)
 dec_to (yes a) (yes b) = yes (λ x. b)
 dec_to (yes a) (no b) = no (λ f. b (f a))
 dec_to (no a) d = yes (λ x. absurd (a x))
-
-dec_both : {A B : Type 0} → Dec A → Dec B → Dec (A × B)
-dec_both (yes a) (yes b) = yes (a, b)
-dec_both (yes a) (no b) = no (λ p. b p.1)
-dec_both (no a) d = no (λ p. a p.0)
 
 -- only releases follow
 bounded : {n : ℕ} {P Q : ℕ → Type 0} → ((v : ℕ) → P v → v < n) → Dec ((v : ℕ) → v < n → P v → Q v) → Dec ((v : ℕ) → P v → Q v)
@@ -44,4 +33,4 @@ module _ (chart : Chart) (lawful : Lawful chart) where
 
     pub dec_all : (rs : Rules) (w : ℕ) → Dec (AllHold chart w rs)
     dec_all none w = yes tt
-    dec_all (more r rs) w = dec_both (dec_holds r w) (dec_all rs w)
+    dec_all (more r rs) w = both_decided (dec_holds r w) (dec_all rs w)

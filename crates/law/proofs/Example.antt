@@ -8,7 +8,7 @@ use Rattle.logic.specs.Search.{Query, On, succeeded, failed, spent, no_budget, b
 use Rattle.logic.specs.Check.{none_waits, rule_byte}
 use Rattle.logic.specs.Store.{store, RulesAsked, book_of}
 use Rattle.logic.proofs.Tests.{both}
-use Rattle.logic.proofs.Ways.{on_cases}
+use Rattle.logic.proofs.Ways.{nothing_on, on_cases}
 use Rattle.logic.specs.Check.{wrong_record, no_restart, after_record}
 use Rattle.law.specs.Defined.{TreeOf, Checked, accepts, rejects, refuses, answers}
 use Rattle.law.specs.Calls.{rejected, Tally}
@@ -45,16 +45,13 @@ other_head a = off 0 a.heads
 abbrev query : ℕ → Query
 query x = record { in_force = 6; name = x }
 
-nothing_begun : {q : Query} → On q [] → ⊥
-nothing_begun o = elim o [ ]
-
 not_begun : On (query 1) (query 0 ∷ []) → ⊥
-not_begun o = ⊎_elim (λ e. off 0 (sym (ap (λ (q : Query). q.name) e))) nothing_begun (on_cases o)
+not_begun o = ⊎_elim (λ e. off 0 (sym (ap (λ (q : Query). q.name) e))) nothing_on (on_cases o)
 
 asks : RulesAsked false in_force goal 10 (succeeded (1 ∷ 1 ∷ 1 ∷ 2 ∷ [])) 2
 unfolding store head_of bodies_of supposing
 asks =
-    begun nothing_begun (off 9)
+    begun nothing_on (off 9)
     (passed (lit< tt) (not_in_force 0)
     (rule_succeeds (lit< tt) first_applies
     (rest_succeeds {t = 1 ∷ 2 ∷ []} {ts = []}
@@ -64,7 +61,7 @@ asks =
 spends : RulesAsked false in_force goal 1 spent 1
 unfolding store head_of bodies_of supposing
 spends =
-    begun nothing_begun (off 0)
+    begun nothing_on (off 0)
     (passed (lit< tt) (not_in_force 0) (rule_spent (lit< tt) first_applies (body_spent (no_budget not_begun refl))))
 
 tree : TreeOf false in_force goal (1 ∷ 1 ∷ 1 ∷ 2 ∷ [])
@@ -112,12 +109,12 @@ abbrev alone_query : ℕ → Query
 alone_query x = record { in_force = 2; name = x }
 
 alone_not_begun : On (alone_query 1) (alone_query 0 ∷ []) → ⊥
-alone_not_begun o = ⊎_elim (λ e. off 0 (sym (ap (λ (q : Query). q.name) e))) nothing_begun (on_cases o)
+alone_not_begun o = ⊎_elim (λ e. off 0 (sym (ap (λ (q : Query). q.name) e))) nothing_on (on_cases o)
 
 fails : RulesAsked false alone goal 10 failed 2
 unfolding store head_of bodies_of supposing
 fails =
-    begun nothing_begun (off 9)
+    begun nothing_on (off 9)
     (passed (lit< tt) (alone_not_first 0)
     (rule_fails (lit< tt) alone_applies
     (body_fails

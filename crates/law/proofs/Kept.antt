@@ -1,5 +1,6 @@
 -- What stands grows only at its end.
-use Rattle.std.proofs.Common.{◌≡◌, ℕ, suc, ◌+◌, ◌-◌, ◌%◌, ◌^◌, ◌≤◌, Bool, true, false, cond, ltb, leb, List, [], ◌∷◌, ◌++◌, length, take, drop, sym, refl, ap, ◌∙◌, subst, zero-le, mod-eq_of_lt, arith, ltb→lt, leb→le, take-append-drop, length-take}
+use Rattle.std.proofs.Common.{◌≡◌, ℕ, suc, ◌+◌, ◌-◌, ◌%◌, ◌^◌, ◌≤◌, true, ltb, leb, List, [], ◌∷◌, ◌++◌, length, take, drop, sym, refl, ap, ◌∙◌, subst, zero-le, mod-eq_of_lt, arith, take-append-drop, length-take}
+use Rattle.std.proofs.lemmas.Bool.{both_ways, true≢false, leb-true, ltb-true, cond_both}
 use mathlib.Core.Option.{Option, none, some}
 use lib.Pow.{mod-mod-pow}
 use lib.Seq.{take-append_seam}
@@ -15,11 +16,11 @@ use Rattle.book.specs.Limits.{most_records}
 use Rattle.book.specs.Entering.{all_appear, left_out, numbered}
 use Rattle.law.specs.Limits.{most_suppositions}
 use Rattle.law.specs.Standing.{Standing, nothing, Entry, entered, fit, enter_read, enter, after_entry, enter_all, stood, behind}
-use Rattle.law.specs.Calls.{Call, add, seal, reopen, suppose, withdraw, ask, check, look, Tally, Takes, at_start, in_force, taken, unless_refused}
+use Rattle.law.specs.Calls.{Call, add, seal, reopen, suppose, withdraw, Tally, Takes, at_start, in_force, taken, unless_refused}
 use Rattle.law.specs.Defined.{unless, standing, entering, refusal, next}
 use Rattle.law.specs.Kept.{HeadsBelow, AllHeadsBelow, Grows, AllEnter, TallyRight, StandingKeptAll}
-use Rattle.law.proofs.Refusals.{passes, not_false, or_none, unless_none}
-use Rattle.law.proofs.OneAnswer.{is_entered}
+use Rattle.law.proofs.Refusals.{or_none, unless_none}
+use Rattle.law.proofs.OneAnswer.{rule_in, is_entered}
 use Rattle.law.proofs.KeysKept.{all_front, none_left_out, all_known, heads_below}
 use Rattle.law.proofs.RecordsKept.{front_length, stored_behind, store_front, force_below, force_kept}
 
@@ -43,10 +44,6 @@ abbrev keys_in : {K : Type 0} → Entry K → List K
 keys_in (Entry.refused f) = []
 keys_in (entered ks r) = ks
 
-abbrev rule_in : {K : Type 0} → Entry K → Rule
-rule_in (Entry.refused f) = rule 0 Rules.none
-rule_in (entered ks r) = r
-
 module _ {K : Type 0} (kind : Kind K) (slots : ℕ) where
   -- what an entry tells of what stands then
   record Enters (s : Standing K) (ks : List K) (r : Rule) : Type 0 where
@@ -66,24 +63,23 @@ module _ {K : Type 0} (kind : Kind K) (slots : ℕ) where
       this : Rule
       this = numbered kind.same keys w
 
-      size : (b : Bool) → leb (length (book_of s.rules this)) most_records ≡ b → left_out kind.same (room slots) s.keys (mentions w) ≡ none
-          → cond b (entered keys this) (Entry.refused (record { number = 21; place = 0 })) ≡ entered ks r → Enters s ks r
-      size true h none_out e' =
-          let same_keys : keys ≡ ks = ap keys_in e' in
-          let same_rule : this ≡ r = ap rule_in e' in record {
+      by : (o : Option ℕ) → left_out kind.same (room slots) s.keys (mentions w) ≡ o → fit kind slots s keys this o ≡ entered ks r → Enters s ks r
+      by (some p) h e' = absurd (subst IsEntered (sym e') tt)
+      by none h e' =
+          cond_both (leb (length (book_of s.rules this)) most_records) (entered keys this) (Entry.refused (record { number = 21; place = 0 }))
+          (λ x. x ≡ entered ks r → Enters s ks r)
+          (λ fits same.
+          let same_keys : keys ≡ ks = ap keys_in same in
+          let same_rule : this ≡ r = ap rule_in same in record {
             front = subst (Front s.keys) same_keys (all_front kind.same s.keys (mentions w));
-            few = λ l. subst (λ (l' : List K). length l' ≤ room slots) same_keys (none_left_out kind.same (room slots) s.keys (mentions w) l none_out);
-            fits = subst (λ (x : Rule). length (book_of s.rules x) ≤ most_records) same_rule (leb→le (length (book_of s.rules this)) most_records (passes h));
+            few = λ l. subst (λ (l' : List K). length l' ≤ room slots) same_keys (none_left_out kind.same (room slots) s.keys (mentions w) l h);
+            fits = subst (λ (x : Rule). length (book_of s.rules x) ≤ most_records) same_rule (leb-true (length (book_of s.rules this)) most_records fits);
             headed = λ reflexive.
                 subst (λ (l : List K). HeadsBelow (length l) r) same_keys
                 (subst (HeadsBelow (length keys)) same_rule
                 (heads_below kind.same reflexive w keys (all_known kind.same reflexive s.keys (mentions w))));
-          }
-      size false h none_out e' = absurd (subst IsEntered (sym e') tt)
-
-      by : (o : Option ℕ) → left_out kind.same (room slots) s.keys (mentions w) ≡ o → fit kind slots s keys this o ≡ entered ks r → Enters s ks r
-      by (some p) h e' = absurd (subst IsEntered (sym e') tt)
-      by none h e' = size (leb (length (book_of s.rules this)) most_records) refl h e'
+          })
+          (λ over same. absurd (subst IsEntered (sym same) tt)) e'
 
   enters : (s : Standing K) (w : List ℕ) (ks : List K) (r : Rule) → enter kind slots s w ≡ entered ks r → Enters s ks r
   enters s w ks r e = enters_read s (kind.reading w) ks r e
@@ -114,20 +110,29 @@ module _ {K : Type 0} (kind : Kind K) (slots : ℕ) where
             ∙ ap (λ (S : ℕ). S % 2 ^ n) q.in_force ∙ p.in_force;
       }
 
-  then_grows : (s : Standing K) (w : List ℕ) → Grows s (then s w)
-  then_grows s w = go (enter kind slots s w) refl
-    where
-      go : (e : Entry K) → enter kind slots s w ≡ e → Grows s (after_entry kind slots s e)
-      go (Entry.refused f) h = grows_self s
-      go (entered ks r) h = record {
-        keys = (enters s w ks r h).front;
-        records = subst (Front (stores [] s.rules)) (sym (stored_behind [] s.rules r)) (store_front r (stores [] s.rules));
-        in_force = force_kept s.rules r;
-      }
+  -- what each rule that is entered keeps, a list of them keeps
+  module _ (P : Standing K → Type 0)
+      (kept : (s : Standing K) (ks : List K) (r : Rule) → Enters s ks r → P s → P (record { keys = ks; rules = behind s.rules r })) where
+    then_keeps : (s : Standing K) (w : List ℕ) → P s → P (then s w)
+    then_keeps s w h = go (enter kind slots s w) refl
+      where
+        go : (e : Entry K) → enter kind slots s w ≡ e → P (after_entry kind slots s e)
+        go (Entry.refused f) e = h
+        go (entered ks r) e = kept s ks r (enters s w ks r e) h
+
+    all_keep : (s : Standing K) (ws : List (List ℕ)) → P s → P (enter_all kind slots s ws)
+    all_keep s [] h = h
+    all_keep s (w ∷ ws) h = all_keep (then s w) ws (then_keeps s w h)
+
+  entered_grows : (s : Standing K) (ks : List K) (r : Rule) → Enters s ks r → Grows s (record { keys = ks; rules = behind s.rules r })
+  entered_grows s ks r e = record {
+    keys = e.front;
+    records = subst (Front (stores [] s.rules)) (sym (stored_behind [] s.rules r)) (store_front r (stores [] s.rules));
+    in_force = force_kept s.rules r;
+  }
 
   all_grows : (s : Standing K) (ws : List (List ℕ)) → Grows s (enter_all kind slots s ws)
-  all_grows s [] = grows_self s
-  all_grows s (w ∷ ws) = grows_trans (then_grows s w) (all_grows (then s w) ws)
+  all_grows s ws = all_keep (Grows s) (λ s' ks r e g. grows_trans g (entered_grows s' ks r e)) s ws (grows_self s)
 
   pub all_append : (s : Standing K) (ws vs : List (List ℕ)) → enter_all kind slots s (ws ++ vs) ≡ enter_all kind slots (enter_all kind slots s ws) vs
   all_append s [] vs = refl
@@ -136,19 +141,10 @@ module _ {K : Type 0} (kind : Kind K) (slots : ℕ) where
   abbrev Room : Standing K → Type 0
   Room s = (length s.keys ≤ room slots) × (length (stores [] s.rules) ≤ most_records)
 
-  then_room : (s : Standing K) (w : List ℕ) → Room s → Room (then s w)
-  then_room s w h = go (enter kind slots s w) refl
-    where
-      go : (e : Entry K) → enter kind slots s w ≡ e → Room (after_entry kind slots s e)
-      go (Entry.refused f) e = h
-      go (entered ks r) e = (
-        (enters s w ks r e).few h.0,
-        subst (λ (book : Book). length book ≤ most_records) (sym (stored_behind [] s.rules r)) (enters s w ks r e).fits,
-      )
-
   all_room : (s : Standing K) (ws : List (List ℕ)) → Room s → Room (enter_all kind slots s ws)
-  all_room s [] h = h
-  all_room s (w ∷ ws) h = all_room (then s w) ws (then_room s w h)
+  all_room =
+      all_keep Room
+      (λ s ks r e h. (e.few h.0, subst (λ (book : Book). length book ≤ most_records) (sym (stored_behind [] s.rules r)) e.fits))
 
   nothing_room : Room nothing
   unfolding store
@@ -159,20 +155,10 @@ module _ {K : Type 0} (kind : Kind K) (slots : ℕ) where
   abbrev Headed : Standing K → Type 0
   Headed s = AllHeadsBelow (length s.keys) s.rules
 
-  module _ (reflexive : (k : K) → kind.same k k ≡ true) where
-    then_headed : (s : Standing K) (w : List ℕ) → Headed s → Headed (then s w)
-    then_headed s w h = go (enter kind slots s w) refl
-      where
-        go : (e : Entry K) → enter kind slots s w ≡ e → Headed (after_entry kind slots s e)
-        go (Entry.refused f) e = h
-        go (entered ks r) e =
-            heads_behind (length ks) s.rules r
-            (all_heads_more (length s.keys) (length ks) (front_length (enters s w ks r e).front) s.rules h)
-            ((enters s w ks r e).headed reflexive)
-
-    all_headed : (s : Standing K) (ws : List (List ℕ)) → Headed s → Headed (enter_all kind slots s ws)
-    all_headed s [] h = h
-    all_headed s (w ∷ ws) h = all_headed (then s w) ws (then_headed s w h)
+  all_headed : ((k : K) → kind.same k k ≡ true) → (s : Standing K) (ws : List (List ℕ)) → Headed s → Headed (enter_all kind slots s ws)
+  all_headed reflexive =
+      all_keep Headed
+      (λ s ks r e h. heads_behind (length ks) s.rules r (all_heads_more (length s.keys) (length ks) (front_length e.front) s.rules h) (e.headed reflexive))
 
   -- ---- what stood before each rule
 
@@ -250,7 +236,7 @@ module _ {K : Type 0} (kind : Kind K) (slots : ℕ) where
     few = s.few;
     draft = s.draft;
   }
-  taken_right t seal takes s h = record { entered_all = s.entered_all; few = s.few; draft = λ e. absurd (not_false refl e) }
+  taken_right t seal takes s h = record { entered_all = s.entered_all; few = s.few; draft = λ e. absurd (true≢false e) }
   taken_right t reopen takes s h = record {
     entered_all = enter_less t (in_force (taken t reopen)) t.supposed (reopen_split t) s;
     few = zero-le;
@@ -258,20 +244,18 @@ module _ {K : Type 0} (kind : Kind K) (slots : ℕ) where
   }
   taken_right t (suppose w) takes s h =
       let parts = or_none (unless (ltb (length t.supposed) most_suppositions) 30) (entering kind slots t w) h in
-      let below = ltb→lt (length t.supposed) most_suppositions (passes (unless_none (ltb (length t.supposed) most_suppositions) 30 parts.0)) in record {
+      let below = ltb-true (length t.supposed) most_suppositions (unless_none (ltb (length t.supposed) most_suppositions) 30 parts.0) in record {
         entered_all = enter_last t w (in_force (taken t (suppose w))) (supposed_last t w) s parts.1;
         few = omega (arith, below, length_push t.supposed w);
-        draft = λ e. absurd (not_false takes e);
+        draft = λ e. absurd (both_ways _ e takes);
       }
   taken_right t withdraw takes s h =
       let n = length t.supposed - 1 in record {
         entered_all = enter_less t (in_force (taken t withdraw)) (drop n t.supposed) (withdraw_split t) s;
         few = omega (arith, length-take n t.supposed, s.few);
-        draft = λ e. absurd (not_false takes e);
+        draft = λ e. absurd (both_ways _ e takes);
       }
-  taken_right t (ask goal budget buffer restart) takes s h = s
-  taken_right t (check goal tree restart) takes s h = s
-  taken_right t (look goal chart release) takes s h = s
+  taken_right t _ takes s h = s
 
   pub next_right : (t : Tally) (c : Call) → Takes t c → TallyRight kind slots t → TallyRight kind slots (next kind slots t c)
   next_right t c takes s = go (refusal kind slots t c) refl

@@ -1,5 +1,6 @@
 -- The keys of a rule get numbers behind the others.
-use Rattle.std.proofs.Common.{◌≡◌, ℕ, ◌<◌, ◌≤◌, Bool, true, false, cond, leb, List, [], ◌∷◌, ◌++◌, length, sym, refl, ap, ◌∙◌, arith, leb→le, length-append}
+use Rattle.std.proofs.Common.{◌≡◌, ℕ, ◌<◌, ◌≤◌, Bool, true, leb, List, [], ◌∷◌, ◌++◌, length, sym, ap, ◌∙◌, arith, length-append}
+use Rattle.std.proofs.lemmas.Bool.{leb-true, cond_both}
 use mathlib.Core.Option.{none, some, none-ne-some}
 use Rattle.keys.specs.Numbering.{number, appear}
 use Rattle.keys.specs.Kept.{Front}
@@ -7,7 +8,6 @@ use Rattle.keys.proofs.Numbering.{front_self, front_trans, appear_front, number_
 use Rattle.reader.specs.Written.{WrittenRule, WrittenBodies, written, no_body, body, Mention, mentions, mentions_all}
 use Rattle.book.specs.Entering.{all_appear, left_out, numbered, all_numbered}
 use Rattle.law.specs.Kept.{HeadsBelow, AllHeadsBelow, KeysKeptAll}
-use Rattle.law.proofs.Refusals.{passes}
 
 module _ {K : Type 0} (same : K → K → Bool) where
   pub all_front : (ks : List K) (ms : List (Mention K)) → Front ks (all_appear same ks ms)
@@ -19,15 +19,13 @@ module _ {K : Type 0} (same : K → K → Bool) where
       → length (all_appear same ks ms) ≤ room
   none_left_out room ks [] l e = l
   none_left_out room ks (m ∷ ms) l e =
-      go (leb (length (appear same ks m.key)) room) refl e (none_left_out room (appear same ks m.key) ms)
-    where
-      go : (b : Bool) → leb (length (appear same ks m.key)) room ≡ b
-          → cond b (left_out same room (appear same ks m.key) ms) (some m.place) ≡ none
-          → (length (appear same ks m.key) ≤ room → left_out same room (appear same ks m.key) ms ≡ none
-          → length (all_appear same (appear same ks m.key) ms) ≤ room)
-          → length (all_appear same (appear same ks m.key) ms) ≤ room
-      go true h e' ih = ih (leb→le (length (appear same ks m.key)) room (passes h)) e'
-      go false h e' ih = absurd (none-ne-some m.place (sym e'))
+      let first = appear same ks m.key in
+      cond_both (leb (length first) room) (left_out same room first ms) (some m.place) (λ o. o ≡ none → length (all_appear same first ms) ≤ room)
+      (λ fits e'. none_left_out room first ms (leb-true (length first) room fits) e') (λ over e'. absurd (none-ne-some m.place (sym e'))) e
+
+  -- a key that has a number keeps it
+  kept : (ks ls : List K) (k : K) → Front ks ls → number same ks k < length ks → number same ls k ≡ number same ks k
+  kept ks ls k f l = ap (λ (l' : List K). number same l' k) f.split ∙ number_kept same ks f.others k l
 
   -- ---- heads
 
@@ -46,10 +44,7 @@ module _ {K : Type 0} (same : K → K → Bool) where
     known_right ks (m ∷ ms) ns h = known_right ks ms ns h.1
 
     still_known : (ks ls : List K) (k : K) → Front ks ls → number same ks k < length ks → number same ls k < length ls
-    still_known ks ls k f l =
-        let same_number : number same ls k ≡ number same ks k =
-        ap (λ (l' : List K). number same l' k) f.split ∙ number_kept same ks f.others k l in
-        omega (arith, same_number, l, ap length f.split, length-append ks f.others)
+    still_known ks ls k f l = omega (arith, kept ks ls k f l, l, ap length f.split, length-append ks f.others)
 
     pub all_known : (ks : List K) (ms : List (Mention K)) → Known (all_appear same ks ms) ms
     all_known ks [] = tt
@@ -73,9 +68,7 @@ module _ {K : Type 0} (same : K → K → Bool) where
 pub keys_kept : (K : Type 0) → KeysKeptAll K
 keys_kept K same = record {
   appended = all_front same;
-  kept = λ ks ms k l.
-      let f = all_front same ks ms in
-      ap (λ (l' : List K). number same l' k) f.split ∙ number_kept same ks f.others k l;
+  kept = λ ks ms k. kept same ks (all_appear same ks ms) k (all_front same ks ms);
   heads = λ reflexive ks w.
       heads_below same reflexive w (all_appear same ks (mentions w)) (all_known same reflexive ks (mentions w));
 }

@@ -1,7 +1,7 @@
 -- The law holds.
-use Rattle.std.proofs.Common.{◌≡◌, ℕ, ◌-◌, ◌<◌, ◌≤◌, Bool, true, false, cond, not, ◌&&◌, T, ltb, leb, List, [], ◌∷◌, ◌++◌, length, take, sym, refl, ap, ◌∙◌, subst, arith, ltb→lt, leb→le}
+use Rattle.std.proofs.Common.{◌≡◌, ℕ, ◌-◌, ◌<◌, ◌≤◌, Bool, true, false, cond, ◌&&◌, T, ltb, leb, List, [], ◌∷◌, ◌++◌, length, take, sym, refl, ap, ◌∙◌, subst, arith}
+use Rattle.std.proofs.lemmas.Bool.{leb-true, ltb-true, leb-false, le-leb, lt-ltb, cond_both}
 use mathlib.Core.Option.{none}
-use lib.Dec.{nleb→lt}
 use lib.Seq.{take-append_seam}
 use Rattle.logic.specs.Rules.{Rule, Rules}
 use Rattle.logic.specs.Charts.{Chart, Lawful, Holds}
@@ -13,71 +13,37 @@ use Rattle.logic.proofs.Failure.{failure_right}
 use Rattle.logic.proofs.Store.{rules_right, restart_rules_right, rules_sound}
 use Rattle.reader.specs.Written.{Kind}
 use Rattle.law.specs.Limits.{largest_budget, tree_bytes}
-use Rattle.law.specs.Calls.{Call, add, seal, reopen, suppose, withdraw, ask, check, look, Answer, done, refused, long, accepted, rejected, told, handed, Tally, unless_refused}
-use Rattle.law.specs.Defined.{unless, refusal_of, zeros, found, filled, goal_query, TreeOf, Checked, accepts, rejects, standing, Goal, entering, Says, Defined, refuses, answers, next}
+use Rattle.law.specs.Calls.{Call, ask, check, look, Answer, refused, long, accepted, told, handed, Tally, unless_refused}
+use Rattle.law.specs.Defined.{unless, refusal_of, zeros, found, filled, goal_query, TreeOf, Checked, accepts, standing, Goal, entering, Says, Defined, refuses, answers, next}
 use Rattle.law.specs.Runs.{Event, IsRefused, Run}
 use Rattle.law.specs.Law as law
 use Rattle.law.specs.Law.{LawHolds, TreeFor, Occurs}
-use Rattle.law.proofs.Refusals.{passes, le_passes, lt_passes, unless_none, or_none, none_or, passed_unless}
+use Rattle.law.proofs.Refusals.{passes, unless_none, or_none, none_or, passed_unless}
 use Rattle.law.proofs.OneAnswer.{goal_same, one}
 use Rattle.law.proofs.Runs.{Step, happened, unrefused, stays, past, next_step}
 
 -- ---- which end of the search an answer tells
 
 abbrev IsYes : Answer → Type 0
-IsYes done = ⊥
-IsYes (refused f) = ⊥
 IsYes (Answer.yes k n) = Unit {0}
-IsYes (Answer.no k) = ⊥
-IsYes (Answer.spent k) = ⊥
-IsYes (long k n) = ⊥
-IsYes accepted = ⊥
-IsYes (rejected p) = ⊥
-IsYes (told a b) = ⊥
+IsYes _ = ⊥
 
 abbrev IsNo : Answer → Type 0
-IsNo done = ⊥
-IsNo (refused f) = ⊥
-IsNo (Answer.yes k n) = ⊥
 IsNo (Answer.no k) = Unit {0}
-IsNo (Answer.spent k) = ⊥
-IsNo (long k n) = ⊥
-IsNo accepted = ⊥
-IsNo (rejected p) = ⊥
-IsNo (told a b) = ⊥
+IsNo _ = ⊥
 
 abbrev IsLong : Answer → Type 0
-IsLong done = ⊥
-IsLong (refused f) = ⊥
-IsLong (Answer.yes k n) = ⊥
-IsLong (Answer.no k) = ⊥
-IsLong (Answer.spent k) = ⊥
 IsLong (long k n) = Unit {0}
-IsLong accepted = ⊥
-IsLong (rejected p) = ⊥
-IsLong (told a b) = ⊥
+IsLong _ = ⊥
 
 abbrev length_in : Answer → ℕ
-length_in done = 0
-length_in (refused f) = 0
 length_in (Answer.yes k n) = n
-length_in (Answer.no k) = 0
-length_in (Answer.spent k) = 0
 length_in (long k n) = n
-length_in accepted = 0
-length_in (rejected p) = 0
-length_in (told a b) = 0
+length_in _ = 0
 
 abbrev tests_in : Answer → Bool × Bool
-tests_in done = (false, false)
-tests_in (refused f) = (false, false)
-tests_in (Answer.yes k n) = (false, false)
-tests_in (Answer.no k) = (false, false)
-tests_in (Answer.spent k) = (false, false)
-tests_in (long k n) = (false, false)
-tests_in accepted = (false, false)
-tests_in (rejected p) = (false, false)
 tests_in (told a b) = (a, b)
+tests_in _ = (false, false)
 
 -- the search found a tree, which fills the front of the buffer
 record Tells (out : Outcome) (buffer : List ℕ) (n : ℕ) (b : List ℕ) : Type 0 where
@@ -95,19 +61,15 @@ yes_tells buffer (succeeded t) j k n b ea eb = go (leb (length t) (length buffer
     go true e ea' eb' = record {
       tree = t;
       is = refl;
-      fits = leb→le (length t) (length buffer) (passes e);
+      fits = leb-true (length t) (length buffer) e;
       front = ap (λ (m : ℕ). take m b) (ap length_in ea') ∙ ap (take (length t)) eb' ∙ take-append_seam t (zeros (length buffer - length t));
     }
     go false e ea' eb' = absurd (subst IsYes ea' tt)
-yes_tells buffer failed j k n b ea eb = absurd (subst IsYes ea tt)
-yes_tells buffer Outcome.spent j k n b ea eb = absurd (subst IsYes ea tt)
+yes_tells buffer _ j k n b ea eb = absurd (subst IsYes ea tt)
 
 no_tells : (buffer : List ℕ) (out : Outcome) (j k : ℕ) → Answer.no k ≡ found buffer out j → out ≡ failed
-no_tells buffer (succeeded t) j k ea = go (leb (length t) (length buffer)) ea
-  where
-    go : (x : Bool) → Answer.no k ≡ cond x (Answer.yes j (length t)) (long j (length t)) → succeeded t ≡ failed
-    go true e = absurd (subst IsNo e tt)
-    go false e = absurd (subst IsNo e tt)
+no_tells buffer (succeeded t) j k ea =
+    absurd (cond_both (leb (length t) (length buffer)) (Answer.yes j (length t)) (long j (length t)) (λ a. IsNo a → ⊥) (λ e n. n) (λ e n. n) (subst IsNo ea tt))
 no_tells buffer failed j k ea = refl
 no_tells buffer Outcome.spent j k ea = absurd (subst IsNo ea tt)
 
@@ -119,19 +81,11 @@ record TellsLong (out : Outcome) (buffer : List ℕ) (n : ℕ) : Type 0 where
   long_is : length tree ≡ n
 
 long_tells : (buffer : List ℕ) (out : Outcome) (j k n : ℕ) → long k n ≡ found buffer out j → TellsLong out buffer n
-long_tells buffer (succeeded t) j k n ea = go (leb (length t) (length buffer)) refl ea
-  where
-    go : (x : Bool) → leb (length t) (length buffer) ≡ x → long k n ≡ cond x (Answer.yes j (length t)) (long j (length t))
-        → TellsLong (succeeded t) buffer n
-    go true e ea' = absurd (subst IsLong ea' tt)
-    go false e ea' = record {
-      tree = t;
-      is = refl;
-      over = nleb→lt (length t) (length buffer) (subst (λ (y : Bool). T (not y)) (sym e) tt);
-      long_is = sym (ap length_in ea');
-    }
-long_tells buffer failed j k n ea = absurd (subst IsLong ea tt)
-long_tells buffer Outcome.spent j k n ea = absurd (subst IsLong ea tt)
+long_tells buffer (succeeded t) j k n ea =
+    cond_both (leb (length t) (length buffer)) (Answer.yes j (length t)) (long j (length t)) (λ a. long k n ≡ a → TellsLong (succeeded t) buffer n)
+    (λ e ea'. absurd (subst IsLong ea' tt))
+    (λ e ea'. record { tree = t; is = refl; over = leb-false (length t) (length buffer) e; long_is = sym (ap length_in ea') }) ea
+long_tells buffer _ j k n ea = absurd (subst IsLong ea tt)
 
 -- ---- trees and bytes
 
@@ -145,15 +99,14 @@ found_tree restart rules goal budget k t d =
     (check_right (book_of rules goal) restart (goal_query rules goal).name (goal_query rules goal) t).1
     (success_right (setting restart rules goal budget) [] (goal_query rules goal) 0 k t d)
 
+tree_read : (restart : Bool) (rules : Rules) (goal : Rule) (t : List ℕ) → TreeOf restart rules goal t → RulesTree restart rules goal
+tree_read restart rules goal t tree = ((check_right (book_of rules goal) restart (goal_query rules goal).name (goal_query rules goal) t).0 tree).0
+
 no_tree_found : (restart : Bool) (rules : Rules) (goal : Rule) (budget k : ℕ) (t : List ℕ)
     → RulesAsked restart rules goal budget failed k → TreeOf restart rules goal t → ⊥
 unfolding setting
 no_tree_found restart rules goal budget k t d tree =
-    failure_right (setting restart rules goal budget) (goal_query rules goal) 0 k d
-    ((check_right (book_of rules goal) restart (goal_query rules goal).name (goal_query rules goal) t).0 tree).0
-
-tree_read : (restart : Bool) (rules : Rules) (goal : Rule) (t : List ℕ) → TreeOf restart rules goal t → RulesTree restart rules goal
-tree_read restart rules goal t tree = ((check_right (book_of rules goal) restart (goal_query rules goal).name (goal_query rules goal) t).0 tree).0
+    failure_right (setting restart rules goal budget) (goal_query rules goal) 0 k d (tree_read restart rules goal t tree)
 
 accepted_tree : {restart : Bool} {rules : Rules} {goal : Rule} {t : List ℕ} → Checked restart rules goal t accepted → TreeOf restart rules goal t
 accepted_tree (accepts w) = w
@@ -179,7 +132,7 @@ module _ {K : Type 0} (kind : Kind K) (slots : ℕ) where
       let (e, (goal', g', all, one', ha, ho, ea, eb)) = unrefused kind slots d (λ x. x) in
       let same = goal_same kind slots t w goal goal' g g' in
       let here = (or_none (entering kind slots t w) (unless (ltb release chart.size) 34) e).1 in record {
-        released = ltb→lt release chart.size (passes (unless_none (ltb release chart.size) 34 here));
+        released = ltb-true release chart.size (unless_none (ltb release chart.size) 34 here);
         rules_hold = ha.0 (passes (sym (ap (λ (x : Answer). (tests_in x).0) ea)));
         goal_fails = λ h. subst T (sym (ap (λ (x : Answer). (tests_in x).1) ea)) (ho.1 (subst (Holds chart release) same h));
       }
@@ -187,7 +140,7 @@ module _ {K : Type 0} (kind : Kind K) (slots : ℕ) where
   look_tells : (t : Tally) (w : List ℕ) (goal : Rule) (chart : Chart) → Goal kind slots t w goal
       → (br : Breaks chart (standing kind slots t).rules goal) → Broken t w chart br.release
   look_tells t w goal chart g br =
-      answers (none_or (entering_none t w goal g) (passed_unless 34 (lt_passes br.release chart.size br.released)))
+      answers (none_or (entering_none t w goal g) (passed_unless 34 (lt-ltb br.release chart.size br.released)))
       (goal, g, true, false, (λ x. br.rules_hold, λ x. tt), (λ x. absurd x, br.goal_fails), refl, refl)
 
   -- ---- where a tree stands, no lawful chart breaks the goal
@@ -233,7 +186,7 @@ module _ {K : Type 0} (kind : Kind K) (slots : ℕ) where
       let tells = yes_tells buffer out j k n b ea eb in
       let asked' = subst (λ (o : Outcome). RulesAsked restart rules goal budget o j) tells.is asked in
       let room = (or_none (unless (leb 1 budget && leb budget largest_budget) 32) _ e).1 in
-      let short = leb→le (length buffer) tree_bytes (passes (unless_none (leb (length buffer) tree_bytes) 33 (or_none _ (entering kind slots t w) room).0)) in
+      let short = leb-true (length buffer) tree_bytes (unless_none (leb (length buffer) tree_bytes) 33 (or_none _ (entering kind slots t w) room).0) in
       record {
         small = subst (λ (bs : List ℕ). length bs ≤ tree_bytes) (sym tells.front) (omega (arith, short, tells.fits));
         tree = (goal, g, subst (TreeOf restart rules goal) (sym tells.front) (found_tree restart rules goal budget j tells.tree asked'));
@@ -244,7 +197,7 @@ module _ {K : Type 0} (kind : Kind K) (slots : ℕ) where
       → Defined kind slots t (check w (take n b) restart) accepted []
   found_accepted t w buffer restart n b f =
       let (goal, g, tree) = f.tree in
-      answers (none_or (passed_unless 33 (le_passes (length (take n b)) tree_bytes f.small)) (entering_none t w goal g))
+      answers (none_or (passed_unless 33 (le-leb (length (take n b)) tree_bytes f.small)) (entering_none t w goal g))
       (goal, g, accepts tree, refl)
 
   long_found : (t : Tally) (w : List ℕ) (budget : ℕ) (buffer : List ℕ) (restart : Bool) (k n : ℕ) (b : List ℕ)
@@ -279,29 +232,21 @@ module _ {K : Type 0} (kind : Kind K) (slots : ℕ) where
 -- ---- refusals
 
 found_unrefused : (buffer : List ℕ) (out : Outcome) (k : ℕ) → IsRefused (found buffer out k) → ⊥
-found_unrefused buffer (succeeded t) k h = go (leb (length t) (length buffer)) h
-  where
-    go : (x : Bool) → IsRefused (cond x (Answer.yes k (length t)) (long k (length t))) → ⊥
-    go true y = y
-    go false y = y
-found_unrefused buffer failed k h = h
-found_unrefused buffer Outcome.spent k h = h
+found_unrefused buffer (succeeded t) k =
+    cond_both (leb (length t) (length buffer)) (Answer.yes k (length t)) (long k (length t)) (λ a. IsRefused a → ⊥) (λ e h. h) (λ e h. h)
+found_unrefused buffer _ k = λ h. h
 
 checked_unrefused : {restart : Bool} {rules : Rules} {goal : Rule} {bs : List ℕ} {a : Answer} → Checked restart rules goal bs a → IsRefused a → ⊥
 checked_unrefused (accepts w) h = h
-checked_unrefused (rejects w) h = h
+checked_unrefused _ h = h
 
 module _ {K : Type 0} (kind : Kind K) (slots : ℕ) where
   -- what is not refused answers something else
   says_unrefused : (t : Tally) (c : Call) (a : Answer) (b : List ℕ) → Says kind slots t c a b → IsRefused a → ⊥
-  says_unrefused t (add r) a b s h = subst IsRefused s.0 h
-  says_unrefused t seal a b s h = subst IsRefused s.0 h
-  says_unrefused t reopen a b s h = subst IsRefused s.0 h
-  says_unrefused t (suppose r) a b s h = subst IsRefused s.0 h
-  says_unrefused t withdraw a b s h = subst IsRefused s.0 h
   says_unrefused t (ask w budget buffer restart) a b (goal, g, out, k, d, ea, eb) h = found_unrefused buffer out k (subst IsRefused ea h)
   says_unrefused t (check w tree restart) a b (goal, g, d, eb) h = checked_unrefused d h
   says_unrefused t (look w chart release) a b (goal, g, all, one', ha, ho, ea, eb) h = subst IsRefused ea h
+  says_unrefused t _ a b s h = subst IsRefused s.0 h
 
   leaves : (t : Tally) (c : Call) (a : Answer) (b : List ℕ) → Defined kind slots t c a b → IsRefused a → (next kind slots t c ≡ t) × (b ≡ handed c)
   leaves t c a b (refuses e) h = (ap (unless_refused t c) e, refl)

@@ -1,5 +1,5 @@
 -- A call has an answer, and at most one, and leaves one buffer.
-use Rattle.std.proofs.Common.{◌≡◌, ℕ, Bool, true, false, ◌&&◌, T, ltb, leb, ◌⊎◌, ◌↔◌, List, [], ◌∷◌, length, sym, refl, ap, ◌∙◌, subst, ap₂, inl, inr, zero-le}
+use Rattle.std.proofs.Common.{◌≡◌, ℕ, Bool, ◌&&◌, ltb, leb, ◌⊎◌, List, [], ◌∷◌, length, sym, refl, ap, ◌∙◌, subst, ap₂, inl, inr, zero-le}
 use mathlib.Core.Option.{Option, none, some, none-ne-some, some-injective}
 use Rattle.logic.specs.Rules.{Rule, Rules, rule, Book}
 use Rattle.logic.specs.Charts.{Holds}
@@ -9,10 +9,11 @@ use Rattle.logic.specs.Check.{Answers, Rejects}
 use Rattle.logic.proofs.Deterministic.{deterministic}
 use Rattle.logic.proofs.Ends.{ends}
 use Rattle.logic.proofs.Rejection.{rejects_right}
+use Rattle.logic.proofs.Tests.{is_yes, from_yes, to_yes}
 use Rattle.reader.specs.Written.{Refusal, Kind}
 use Rattle.law.specs.Limits.{largest_budget, tree_bytes}
 use Rattle.law.specs.Standing.{Entry, entered, enter}
-use Rattle.law.specs.Calls.{Call, add, seal, reopen, suppose, withdraw, ask, check, look, Answer, done, refused, accepted, rejected, told, handed, Tally}
+use Rattle.law.specs.Calls.{Call, ask, check, look, Answer, done, refused, accepted, rejected, told, handed, Tally}
 use Rattle.law.specs.Defined.{unless, or_else, refusal_of, goal_query, found, filled, Checked, accepts, rejects, standing, Goal, entering, refusal, Says, Defined, refuses, answers}
 use Rattle.law.specs.OneAnswer.{OfLawful, OneAnswer}
 use Rattle.law.proofs.Refusals.{tests_same, or_none}
@@ -21,7 +22,7 @@ use Rattle.law.proofs.Decided.{dec_holds, dec_all}
 -- ---- at most one
 
 -- the rule that was entered
-abbrev rule_in : {K : Type 0} → Entry K → Rule
+abbrev pub rule_in : {K : Type 0} → Entry K → Rule
 rule_in (Entry.refused f) = rule 0 Rules.none
 rule_in (entered ks r) = r
 
@@ -47,11 +48,6 @@ module _ {K : Type 0} (kind : Kind K) (slots : ℕ) where
   goal_same t w goal goal' g g' = ap rule_in (sym g.1 ∙ g'.1)
 
   says_same : (t : Tally) (c : Call) (a a' : Answer) (b b' : List ℕ) → Says kind slots t c a b → Says kind slots t c a' b' → (a ≡ a') × (b ≡ b')
-  says_same t (add r) a a' b b' s s' = (s.0 ∙ sym s'.0, s.1 ∙ sym s'.1)
-  says_same t seal a a' b b' s s' = (s.0 ∙ sym s'.0, s.1 ∙ sym s'.1)
-  says_same t reopen a a' b b' s s' = (s.0 ∙ sym s'.0, s.1 ∙ sym s'.1)
-  says_same t (suppose r) a a' b b' s s' = (s.0 ∙ sym s'.0, s.1 ∙ sym s'.1)
-  says_same t withdraw a a' b b' s s' = (s.0 ∙ sym s'.0, s.1 ∙ sym s'.1)
   says_same t (ask w budget buffer restart) a a' b b' (goal, g, out, k, d, ea, eb) (goal', g', out', k', d', ea', eb') =
       let rules = (standing kind slots t).rules in
       let e = goal_same t w goal' goal g' g in
@@ -67,6 +63,7 @@ module _ {K : Type 0} (kind : Kind K) (slots : ℕ) where
       let same_one =
       tests_same one one' (λ x. ho'.1 (subst (Holds chart release) e (ho.0 x))) (λ x. ho.1 (subst (Holds chart release) (sym e) (ho'.0 x))) in
       (ea ∙ ap₂ told same_all same_one ∙ sym ea', eb ∙ sym eb')
+  says_same t _ a a' b b' s s' = (s.0 ∙ sym s'.0, s.1 ∙ sym s'.1)
 
   pub one : (t : Tally) (c : Call) (a a' : Answer) (b b' : List ℕ) → Defined kind slots t c a b → Defined kind slots t c a' b' → (a ≡ a') × (b ≡ b')
   one t c a a' b b' (refuses {f = f} e) (refuses {f = f'} e') = (ap refused (some-injective f f' (sym e ∙ e')), refl)
@@ -75,15 +72,6 @@ module _ {K : Type 0} (kind : Kind K) (slots : ℕ) where
   one t c a a' b b' (answers e s) (answers e' s') = says_same t c a a' b b' s s'
 
 -- ---- and one there is
-
--- a decision as a test
-record Tested (P : Type 0) : Type 0 where
-  test : Bool
-  right : T test ↔ P
-
-tested : {P : Type 0} → Dec P → Tested P
-tested (yes p) = record { test = true; right = (λ x. p, λ x. tt) }
-tested (no p) = record { test = false; right = (λ x. absurd x, p) }
 
 checks : (restart : Bool) (rules : Rules) (goal : Rule) (bs : List ℕ) → (a : Answer) × Checked restart rules goal bs a
 checks restart rules goal bs = go (rejects_right.either book restart g (goal_query rules goal ∷ []) 0 bs)
@@ -117,11 +105,6 @@ module _ {K : Type 0} (kind : Kind K) (slots : ℕ) where
   Speaks t c = (a : Answer) × (b : List ℕ) × Says kind slots t c a b
 
   speaks : (t : Tally) (c : Call) → OfLawful c → refusal kind slots t c ≡ none → Speaks t c
-  speaks t (add r) l h = (done, [], (refl, refl))
-  speaks t seal l h = (done, [], (refl, refl))
-  speaks t reopen l h = (done, [], (refl, refl))
-  speaks t (suppose r) l h = (done, [], (refl, refl))
-  speaks t withdraw l h = (done, [], (refl, refl))
   speaks t (ask w budget buffer restart) l h =
       let after_budget = (or_none (unless (leb 1 budget && leb budget largest_budget) 32) (or_else (unless (leb (length buffer) tree_bytes) 33) (entering kind slots t w)) h).1 in
       let (goal, g) = goal_in t w (or_none (unless (leb (length buffer) tree_bytes) 33) (entering kind slots t w) after_budget).1 in
@@ -133,9 +116,11 @@ module _ {K : Type 0} (kind : Kind K) (slots : ℕ) where
       (a, [], (goal, g, d, refl))
   speaks t (look w chart release) l h =
       let (goal, g) = goal_in t w (or_none (entering kind slots t w) (unless (ltb release chart.size) 34) h).0 in
-      let all = tested (dec_all chart l (standing kind slots t).rules release) in
-      let one' = tested (dec_holds chart l goal release) in
-      (told all.test one'.test, [], (goal, g, all.test, one'.test, all.right, one'.right, refl, refl))
+      let all = dec_all chart l (standing kind slots t).rules release in
+      let one' = dec_holds chart l goal release in
+      let told_of = told (is_yes all) (is_yes one') in
+      (told_of, [], (goal, g, is_yes all, is_yes one', (from_yes all, to_yes all), (from_yes one', to_yes one'), refl, refl))
+  speaks t _ l h = (done, [], (refl, refl))
 
   abbrev Answered : Tally → Call → Type 0
   Answered t c = (a : Answer) × (b : List ℕ) × Defined kind slots t c a b

@@ -1,7 +1,6 @@
 -- Tests, and what it says of them that nothing is refused.
-use Rattle.std.proofs.Common.{◌≡◌, ℕ, suc, ◌<◌, ◌≤◌, Bool, true, false, not, T, ltb, leb, sym, refl, ap, ◌∙◌, subst, arith}
+use Rattle.std.proofs.Common.{◌≡◌, ℕ, Bool, true, false, T, sym, refl, ap, ◌∙◌, subst}
 use mathlib.Core.Option.{Option, none, some, none-ne-some}
-use lib.Dec.{nleb→lt}
 use Rattle.reader.specs.Written.{Refusal}
 use Rattle.law.specs.Defined.{unless, or_else}
 
@@ -11,19 +10,6 @@ passes e = subst T (sym e) tt
 pub passed : (x : Bool) → T x → x ≡ true
 passed true t = refl
 passed false t = absurd t
-
-pub not_false : {x : Bool} → x ≡ true → x ≡ false → ⊥
-not_false e f = subst T (sym e ∙ f) tt
-
-pub le_passes : (m n : ℕ) → m ≤ n → leb m n ≡ true
-le_passes m n l = go (leb m n) refl
-  where
-    go : (x : Bool) → leb m n ≡ x → leb m n ≡ true
-    go true e = e
-    go false e = absurd (omega (arith, nleb→lt m n (subst (λ (y : Bool). T (not y)) (sym e) tt)))
-
-pub lt_passes : (m n : ℕ) → m < n → ltb m n ≡ true
-lt_passes m n l = le_passes (suc m) n l
 
 -- the tests that say the same of one fact are the same
 pub tests_same : (x y : Bool) → (T x → T y) → (T y → T x) → x ≡ y

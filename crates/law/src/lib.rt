@@ -9,57 +9,41 @@ ghost use Rattle.law.specs.OneRun.{OneRun};
 ghost use Rattle.law.specs.Runs.{RunRight};
 
 /// The keys of a rule get numbers behind the others.
-pub fn keys_kept_stands<K>() -> u8
+pub fn keys_kept_stands<K>()
     ensures { KeysKeptAll K }
-{
-    0
-}
+{}
 
 /// Records come behind the others.
-pub fn records_kept_stands() -> u8
+pub fn records_kept_stands()
     ensures { RecordsKept }
-{
-    0
-}
+{}
 
 /// What stands grows at its end and is cut back there.
-pub fn standing_kept_stands<K>() -> u8
+pub fn standing_kept_stands<K>()
     ensures { StandingKeptAll K }
-{
-    0
-}
+{}
 
 /// Each call has one answer.
-pub fn one_answer_stands<K>() -> u8
+pub fn one_answer_stands<K>()
     ensures { OneAnswer K }
-{
-    0
-}
+{}
 
 /// Along every run the tally holds what was entered.
-pub fn run_right_stands<K>() -> u8
+pub fn run_right_stands<K>()
     ensures { RunRight K }
-{
-    0
-}
+{}
 
 /// Each list of calls has one run.
-pub fn one_run_stands<K>() -> u8
+pub fn one_run_stands<K>()
     ensures { OneRun K }
-{
-    0
-}
+{}
 
 /// The law holds of every run.
-pub fn law_stands<K>() -> u8
+pub fn law_stands<K>()
     ensures { LawHolds K }
-{
-    0
-}
+{}
 
 /// The worked example is a run.
-pub fn example_stands() -> u8
+pub fn example_stands()
     ensures { ExampleRuns }
-{
-    0
-}
+{}

@@ -1,12 +1,7 @@
-use Rattle.std.proofs.Common.{sym, refl, ◌∙◌, arith, length-set}
+use Rattle.std.proofs.Common.{refl, ◌∙◌, arith, length-set}
 use Rattle.book.specs.declared.record.Record.{Record}
-use Rattle.book.proofs.Adding.{length_records, added, added_earlier, added_named, added_lists, standing_more}
+use Rattle.book.proofs.Adding.{length_records, added_earlier, added_named, added_lists, standing_more}
 use Rattle.book.proofs.book.Book.push.Goals as goal
-
-pub invariant_of-number : goal.invariant_of-number
-invariant_of-number c = record {
-  below = omega (arith, (c.if-not-may_stand.ensures.0 refl).room, length_records c.args.self.now);
-}
 
 pub invariant_of-self : goal.invariant_of-self
 invariant_of-self c =
@@ -27,10 +22,3 @@ invariant_of-self c =
       all = lists.all;
       standing = standing_more b.in_force.bits b.count b.standing;
     }
-
-pub returns : goal.returns
-returns c =
-    let b = c.args.self.now in
-    let x : Record = record { head = c.args.head; bodies = c.args.bodies } in
-    let may = c.if-not-may_stand.ensures.0 refl in
-    (may, sym (length_records b), record { records = added b x c.insert-listed.result may c.insert-listed.ensures; names = refl; in_force = refl })

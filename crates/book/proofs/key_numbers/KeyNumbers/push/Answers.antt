@@ -1,4 +1,4 @@
-use Rattle.std.proofs.Common.{refl, ◌∙◌, arith, length-set}
+use Rattle.std.proofs.Common.{◌∙◌, arith, length-set}
 use Rattle.book.proofs.KeyLists.{one_more, named_more}
 use Rattle.book.proofs.key_numbers.KeyNumbers.push.Goals as goal
 
@@ -11,7 +11,7 @@ invariant_of-self c =
       named = named_more s.at s.count (omega arith) c.args.number s.names c.args.names (omega arith) (omega arith) s.named;
     }
 
-pub returns : goal.returns
-returns c =
+pub returns-clause-numbers : goal.returns-clause-numbers
+returns-clause-numbers c =
     let s = c.args.self.now in
-    record { numbers = one_more s.at s.count (omega arith) c.args.number; count = refl; names = refl }
+    one_more s.at s.count (omega arith) c.args.number

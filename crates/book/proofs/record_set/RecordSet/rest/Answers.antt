@@ -1,18 +1,12 @@
 use Rattle.std.proofs.Common.{◌≡◌, ℕ, ◌+◌, ◌-◌, ◌%◌, ◌^◌, ◌<◌, ◌↔◌, sym, subst, arith}
-use lib.Bits.{bit_and, and_zero_l}
+use lib.Bits.{bit_and}
 use Rattle.logic.specs.Sets.{Has}
-use Rattle.book.proofs.Masks.{has_cleared, cleared_less, least_some}
+use Rattle.book.proofs.Masks.{has_cleared, least_some}
 use Rattle.book.proofs.record_set.RecordSet.rest.Goals as goal
 
-pub returns : goal.returns
-returns c =
+pub returns-clause-members : goal.returns-clause-members
+returns-clause-members c = λ m k l.
     let S = c.args.self.bits in
-    let fits : S < 2 ^ 128 = omega arith in
-    let one_less : 0 < S → (S + 340282366920938463463374607431768211455) % 340282366920938463463374607431768211456 ≡ S - 1 = λ h. omega arith in
-    record {
-      smaller = λ h. subst (λ (n : ℕ). bit_and S n < S) (sym (one_less h)) (cleared_less S h);
-      members = λ m k l.
-          subst (λ (n : ℕ). Has (bit_and S n) k ↔ (Has S k × (m < k))) (sym (one_less (least_some S m l))) (has_cleared S m k l);
-      none = λ e. subst (λ (n : ℕ). bit_and n ((S + 340282366920938463463374607431768211455) % 340282366920938463463374607431768211456) ≡ 0) (sym e)
-          (and_zero_l ((S + 340282366920938463463374607431768211455) % 340282366920938463463374607431768211456));
-    }
+    let some = least_some S m l in
+    let one_less : (S + (2 ^ 128 - 1)) % 2 ^ 128 ≡ S - 1 = omega arith in
+    subst (λ (n : ℕ). Has (bit_and S n) k ↔ (Has S k × (m < k))) (sym one_less) (has_cleared S m k l)

@@ -4,7 +4,7 @@ use Rattle.keys.specs.Registers.{keys_in, slots_of, room}
 use Rattle.reader.specs.Written.{WrittenRule, reads, IsOutline, mentions}
 use Rattle.book.specs.KeyLists.{numbers_in}
 use Rattle.book.proofs.AllNumbered.{SoFar}
-use Rattle.book.proofs.numbering.number_keys.Given as goal
+use Rattle.book.proofs.numbering.enter_keys.Given as goal
 
 -- The keys so far stand behind those of the register, and where the bytes are read as a rule, they have its keys' numbers.
 abbrev pub invariant-loop-place : goal.invariant-loop-place
