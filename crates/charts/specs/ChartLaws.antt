@@ -1,16 +1,17 @@
 -- What holds of charts and their makes.
-use Rattle.std.specs.Prelude.{◌≡◌, ℕ, zero, suc, ◌<◌, ◌≤◌, Bool, true, false, ◌&&◌, T, ◌⊎◌, List, [], length, replicate, ◌==◌, nat_lt, slice_index, refl}
+use Rattle.std.specs.Prelude.{◌≡◌, ℕ, zero, suc, ◌+◌, ◌<◌, ◌≤◌, Bool, true, false, ◌&&◌, T, ◌⊎◌, List, [], ◌∷◌, ◌++◌, length, drop, replicate, ◌==◌, nat_lt, slice_index, refl}
 use Rattle.std.proofs.Common.{sym, ap, ◌∙◌, subst, inl, inr, arith}
-use Rattle.std.proofs.Math.Bool.{Bool-set}
+use Rattle.std.proofs.Math.Bool.{Bool-set, and-false}
+use Rattle.std.specs.Bool.{passes}
 use mathlib.Core.HLevel.{Π_prop}
 use Rattle.std.proofs.Math.Logic.{∥∥₁_elim}
 use Rattle.std.specs.Int.Bits.{bit_and}
-use Rattle.std.proofs.lemmas.List.{get_or-replicate}
-use Rattle.std.proofs.lemmas.Bool.{lt-ltb, le-ltb, ltb-true, and_parts, and_from, cases_lt, false≢true}
+use Rattle.std.proofs.lemmas.List.{get_or-drop, get_or-replicate}
+use Rattle.std.proofs.lemmas.Bool.{lt-ltb, le-ltb, ltb-true, and_parts, cases_lt}
 use Rattle.std.proofs.lemmas.Bool.Decides.{nat_tests}
 use Rattle.charts.specs.Bits.{bit}
 use Rattle.logic.specs.Charts.{Chart, Lawful}
-use Rattle.charts.specs.Laws.{Ranged, TransitiveAt, Reflexive, Transitive, Persistent, ThreeLaws}
+use Rattle.charts.specs.Laws.{Ranged, Reflexive, Transitive, Persistent, ThreeLaws}
 use Rattle.charts.specs.Makes.{single, lined, charted}
 use Rattle.charts.specs.Filling.{Fresh, listed}
 use Rattle.charts.specs.BitLaws.{bit_of_and, bit_zero}
@@ -42,18 +43,14 @@ pub from_T : (b : Bool) → T b → b ≡ true
 from_T true t = refl
 from_T false t = absurd t
 
-pub to_T : (b : Bool) → b ≡ true → T b
-to_T true e = tt
-to_T false e = absurd (false≢true e)
-
 pub lawful : (m : Chart) → Ranged m → Reflexive m → Transitive m → Persistent m → Lawful m
 lawful m ranged reflexive transitive persistent = record {
   inside = λ w v f. let e = from_T (m.follows w v) f in (ranged.followed_in w v e, ranged.follower_in w v e);
-  itself = λ w h. to_T (m.follows w w) (reflexive w h);
+  itself = λ w h. passes (m.follows w w) (reflexive w h);
   onward = λ u v w f g. let e = from_T (m.follows u v) f in
-      to_T (m.follows u w) (transitive u (ranged.followed_in u v e) v w e (from_T (m.follows v w) g));
+      passes (m.follows u w) (transitive u (ranged.followed_in u v e) v w e (from_T (m.follows v w) g));
   keeps = λ w v x f c. let e = from_T (m.follows w v) f in
-      to_T (m.carries v x) (persistent w (ranged.followed_in w v e) v x e (from_T (m.carries w x) c));
+      passes (m.carries v x) (persistent w (ranged.followed_in w v e) v x e (from_T (m.carries w x) c));
 }
 
 -- ---- maps
@@ -65,9 +62,9 @@ getD_zeros (suc n) zero = refl
 getD_zeros (suc n) (suc k) = getD_zeros n k
 
 -- the live bits of word v are the followers of v
-pub live_followers : (fs : List ℕ) (v live k : ℕ) → ((j : ℕ) → bit live j ≡ nat_lt j (length fs)) → v < length fs
-    → bit (bit_and (slice_index fs v) live) k ≡ (listed fs []).follows v k
-live_followers fs v live k lives h =
+pub live_followers : (fs ns : List ℕ) (v live k : ℕ) → ((j : ℕ) → bit live j ≡ nat_lt j (length fs)) → v < length fs
+    → bit (bit_and (slice_index fs v) live) k ≡ (listed fs ns).follows v k
+live_followers fs ns v live k lives h =
     bit_of_and (slice_index fs v) live k ∙ ap (λ (x : Bool). bit (slice_index fs v) k && x) (lives k)
     ∙ swapped (bit (slice_index fs v) k) (nat_lt k (length fs)) (nat_lt v (length fs)) (lt-ltb v (length fs) h)
   where
@@ -79,26 +76,11 @@ live_followers fs v live k lives h =
     swapped false true false e = refl
     swapped false false l e = refl
 
--- a follower's bit is set
-pub followed_bit : (fs : List ℕ) (w v : ℕ) → (listed fs []).follows w v ≡ true → bit (slice_index fs w) v ≡ true
-followed_bit fs w v h =
-    let n = length fs in
-    let b = bit (slice_index fs w) v in
-    (and_parts (nat_lt w n) b (and_parts (nat_lt v n) (nat_lt w n && b) h).1).1
-
-module _ (fs : List ℕ) (w v live : ℕ) (lives : (j : ℕ) → bit live j ≡ nat_lt j (length fs)) (hw : w < length fs) (hv : v < length fs) where
-  -- if word w has the live bits of word v, then w has the followers of v
-  pub followers_within : ((k : ℕ) → bit (bit_and (slice_index fs v) live) k ≡ true → bit (slice_index fs w) k ≡ true)
-      → (u : ℕ) → (listed fs []).follows v u ≡ true → (listed fs []).follows w u ≡ true
-  followers_within f u h =
-      and_from _ _ (and_parts _ _ h).0 (and_from _ _ (lt-ltb w (length fs) hw) (f u (live_followers fs v live u lives hv ∙ h)))
-
-  -- the same backwards, if v follows w
-  pub within_followers : TransitiveAt (listed fs []) w → bit (slice_index fs w) v ≡ true
-      → (k : ℕ) → bit (bit_and (slice_index fs v) live) k ≡ true → bit (slice_index fs w) k ≡ true
-  within_followers t b k h =
-      let follows = and_from _ _ (lt-ltb v (length fs) hv) (and_from _ _ (lt-ltb w (length fs) hw) b) in
-      followed_bit fs w k (t v k follows (sym (live_followers fs v live k lives hv) ∙ h))
+-- words and zeros after them read as the words
+pub padded_reads : (ws : List ℕ) (n m k : ℕ) → slice_index (ws ++ drop m (replicate n 0)) k ≡ slice_index ws k
+padded_reads [] n m k = get_or-drop m (replicate n 0) k 0 ∙ getD_zeros n (m + k)
+padded_reads (w ∷ ws) n m zero = refl
+padded_reads (w ∷ ws) n m (suc k) = padded_reads ws n m k
 
 -- lists that read alike describe one chart
 pub same_charted : (n : ℕ) (fs gs ns ms : List ℕ) → ((k : ℕ) → slice_index fs k ≡ slice_index gs k) → ((k : ℕ) → slice_index ns k ≡ slice_index ms k)
@@ -122,16 +104,12 @@ one_lawful fs ns self = record {
 
 -- ---- charts that carry nothing
 
-and_false : (x : Bool) → (x && false) ≡ false
-and_false true = refl
-and_false false = refl
-
 pub single_fresh : Fresh (single 0)
-single_fresh = (refl, λ w x. ap (λ (y : Bool). (w == 0) && y) (bit_zero x) ∙ and_false (w == 0))
+single_fresh = (refl, λ w x. ap (λ (y : Bool). (w == 0) && y) (bit_zero x) ∙ and-false (w == 0))
 
 pub map_fresh : (fs : List ℕ) → Fresh (charted 1 fs (replicate 64 0))
 map_fresh fs =
-    (refl, λ w x. ap (λ (y : ℕ). nat_lt w 1 && bit y x) (getD_zeros 64 w) ∙ ap (λ (y : Bool). nat_lt w 1 && y) (bit_zero x) ∙ and_false (nat_lt w 1))
+    (refl, λ w x. ap (λ (y : ℕ). nat_lt w 1 && bit y x) (getD_zeros 64 w) ∙ ap (λ (y : Bool). nat_lt w 1 && y) (bit_zero x) ∙ and-false (nat_lt w 1))
 
 pub line_fresh : Fresh (lined 1 (replicate 64 1))
 line_fresh = (refl, λ w x. go w x (cases_lt x 64))

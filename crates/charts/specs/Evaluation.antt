@@ -1,6 +1,6 @@
 -- What the masks of an evaluation say: sets of releases, as words.
 use Rattle.std.specs.Prelude.{◌≡◌, ℕ, ◌<◌, ◌≤◌, true, false, List, length, Decides, slice_index}
-use Rattle.std.specs.List.{AllByRecursion}
+use Rattle.std.specs.List.{All}
 use Rattle.logic.specs.Rules.{Book, rule_of}
 use Rattle.logic.specs.Charts.{Chart, Holds}
 use Rattle.charts.specs.Bits.{bit}
@@ -15,7 +15,7 @@ Meets followers met carriers = (v : ℕ) → bit followers v ≡ true → bit me
 
 -- the release v is in the set of each of these records
 abbrev pub AllSet : List ℕ → List ℕ → ℕ → Type 0
-AllSet masks bs v = AllByRecursion (λ b. bit (slice_index masks b) v ≡ true) bs
+AllSet masks bs v = All (λ b. bit (slice_index masks b) v ≡ true) bs
 
 -- word r of `masks` is the set of the releases at which record r holds; it is empty where there is no such record
 pub record Evaluated (m : Chart) (book : Book) (masks : List ℕ) : Type 0 where

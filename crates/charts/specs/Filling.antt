@@ -1,5 +1,5 @@
 -- When a make can be filled, and why it is refused.
-use Rattle.std.specs.Prelude.{◌≡◌, ℕ, ◌<◌, ◌≤◌, false, List, length}
+use Rattle.std.specs.Prelude.{◌≡◌, ℕ, ◌<◌, ◌≤◌, Bool, true, false, List, length}
 use Rattle.keys.specs.Limits.{most_names}
 use Rattle.logic.specs.Charts.{Chart}
 use Rattle.charts.specs.Limits.{most_releases}
@@ -27,6 +27,16 @@ pub record Lowest (P : ℕ → Type 0) (n w : ℕ) : Type 0 where
   pub inside : w < n
   pub below : (k : ℕ) → k < w → P k
   pub breaks : P w → ⊥
+
+-- a test answers yes at each number below n
+pub record AllYes (Answers : ℕ → Bool → Type 0) (n : ℕ) : Type 0 where
+  pub yes : (k : ℕ) → k < n → Answers k true
+
+-- k is the lowest number below n at which a test answers no
+pub record LowestNo (Answers : ℕ → Bool → Type 0) (n k : ℕ) : Type 0 where
+  pub inside : k < n
+  pub below : (j : ℕ) → j < k → Answers j true
+  pub no : Answers k false
 
 -- a map is refused two lists, with a number and a place: the lists do not fit; or the first of the laws that fails does so at the place,
 -- and at no lower release

@@ -17,6 +17,7 @@ pub enum AnyChart {
     Map(Map),
 }
 
+// One match for each question: a function may not hand out the make as a `dyn Chart`, which would need only one.
 impl Chart for AnyChart {
     ghost value = { λ c. made c };
 

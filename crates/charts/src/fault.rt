@@ -34,9 +34,9 @@ impl ChartFault {
     {
         match self {
             ChartFault::Misfit => 0,
-            ChartFault::Irreflexive(release) => release,
-            ChartFault::Intransitive(release) => release,
-            ChartFault::Forgetful(release) => release,
+            ChartFault::Irreflexive(release)
+            | ChartFault::Intransitive(release)
+            | ChartFault::Forgetful(release) => release,
         }
     }
 }

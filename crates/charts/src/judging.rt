@@ -1,15 +1,14 @@
 //! What holds at one release of a chart.
-ghost use Rattle.std.specs.Prelude.{◌≡◌, ℕ, ◌<◌, ◌≤◌, true, Decides, slice_index};
+ghost use Rattle.std.specs.Prelude.{◌≡◌, ℕ, ◌<◌, true, length, Decides, slice_index};
 ghost use Rattle.logic.specs.Sets.{Has};
 ghost use Rattle.book.specs.Books.{records_of};
-ghost use Rattle.book.specs.Limits.{most_records};
 ghost use Rattle.charts.specs.Bits.{bit};
 ghost use Rattle.charts.specs.Judging.{HoldAt};
 
 use crate::bits::test_bit;
 use crate::chart::Chart;
 use crate::evaluation::evaluate;
-use book::{Book, RECORDS, RecordNumber, RecordSet};
+use book::{Book, RecordNumber, RecordSet};
 
 /// Whether all the rules of a set hold at a release, and whether a goal does.
 #[derive(Clone, Copy, PartialEq, Debug)]
@@ -18,17 +17,15 @@ pub struct Holding {
     pub goal: bool,
 }
 
-/// Tells whether the release is in the mask of each record of `rules` below `count`.
-fn all_hold(masks: &[u64; RECORDS], count: usize, rules: RecordSet, release: usize) -> bool
-    requires { count ≤ most_records }
-    ensures { Decides result ((k : ℕ) → k < count → Has rules.bits k → bit (slice_index masks.now k) release ≡ true) }
+/// Tells whether the release is in the mask of each record of `rules` that has a mask.
+fn all_hold(masks: &[u64], rules: RecordSet, release: usize) -> bool
+    ensures { Decides result ((k : ℕ) → k < length masks.now → Has rules.bits k → bit (slice_index masks.now k) release ≡ true) }
 {
-    for k in 0..count {
-        if rules.contains(RecordNumber { index: k as u8 }) && !test_bit(masks[k], release) {
-            return false;
-        }
-    }
-    true
+    rules.into_iter().all(|number| {
+        masks
+            .get(number.index as usize)
+            .is_none_or(|mask| test_bit(*mask, release))
+    })
 }
 
 /// Tells what holds at `release`: all the records of `rules`, and the record `goal`; nothing where the chart has no such release.
@@ -46,7 +43,7 @@ pub fn hold_at<C: Chart>(
     }
     let masks = evaluate(chart, book);
     Some(Holding {
-        rules: all_hold(&masks, book.count(), rules, release),
+        rules: all_hold(&masks[..book.count()], rules, release),
         goal: test_bit(masks[goal.index as usize], release),
     })
 }

@@ -9,6 +9,7 @@ mod fault;
 mod judging;
 mod limits;
 mod lines;
+mod lists;
 mod maps;
 mod singles;
 

@@ -1,5 +1,5 @@
 //! A chart whose releases stand in a row.
-ghost use Rattle.std.specs.Prelude.{◌≡◌, ◌≤◌, MatchResult};
+ghost use Rattle.std.specs.Prelude.{◌≡◌, ◌≤◌, OnOk, OnErr, IfErr};
 ghost use Rattle.charts.specs.Limits.{most_releases};
 ghost use Rattle.charts.specs.Makes.{lined};
 ghost use Rattle.charts.specs.Faults.{fault_number, fault_place};
@@ -12,11 +12,13 @@ use crate::limits::RELEASES;
 use keys::NAMES;
 
 /// A line of releases: `first[x]` is the first release that carries the number `x`; from `size` on, none does.
+// No type of its own for a size from 1 to 64: a size is handed in as a number and asked for as one.
 #[derive(Clone, Copy)]
 pub struct Line {
     size: usize,
     first: [u8; NAMES],
-    ghost sized: { (1 ≤ size) × (size ≤ most_releases) },
+    ghost some: { 1 ≤ size },
+    ghost few: { size ≤ most_releases },
 }
 
 impl Line {
@@ -32,16 +34,19 @@ impl Line {
 
     /// Makes this the line of `size` releases with these first releases; a refused line stays as it was.
     pub fn fill(&mut self, size: usize, first: &[u8]) -> Result<(), ChartFault>
-        ensures { MatchResult result
-            (λ _. LineFits size first.now × (self.new.size ≡ size) × (self.new.first ≡ first.now))
-            (λ e. (LineFits size first.now → ⊥) × (fault_number e ≡ 41) × (fault_place e ≡ 0) × (self.new ≡ self.old)) }
+        ensures fits { OnOk result (LineFits size first.now) }
+        ensures size { OnOk result (self.new.size ≡ size) }
+        ensures first { OnOk result (self.new.first ≡ first.now) }
+        ensures misfit { OnErr result (LineFits size first.now → ⊥) }
+        ensures number { IfErr result (λ e. fault_number e ≡ 41) }
+        ensures place { IfErr result (λ e. fault_place e ≡ 0) }
+        ensures kept { OnErr result (self.new ≡ self.old) }
     {
-        if size < 1 || size > RELEASES || first.len() != NAMES {
+        if size < 1 || size > RELEASES {
             return Err(ChartFault::Misfit);
         }
-        let mut copy = [0; NAMES];
-        copy.copy_from_slice(first);
-        *self = Line { size, first: copy };
+        let first = first.try_into().map_err(|_| ChartFault::Misfit)?;
+        *self = Line { size, first };
         Ok(())
     }
 }

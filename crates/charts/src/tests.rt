@@ -39,10 +39,9 @@ fn a_rule_is_judged_with_the_followers(rt: HostRuntime) -> Result<(), Fail> {
 /// Tells whether a map of these lists is refused with this number and place.
 fn refused(followers: &[u64], names: &[u64], number: u8, place: usize) -> bool {
     let mut map = Map::new();
-    match map.fill(followers, names) {
-        Ok(()) => false,
-        Err(fault) => fault.number() == number && fault.place() == place && map.size() == 1,
-    }
+    map.fill(followers, names)
+        .is_err_and(|fault| fault.number() == number && fault.place() == place)
+        && map.size() == 1
 }
 
 /// The numbers and places of refused maps and lines; a refused line stays.

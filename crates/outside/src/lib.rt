@@ -9,6 +9,13 @@ ghost use Rattle.std.proofs.Common.{rules};
 
 use book::{Book, RecordNumber, RecordSet};
 use charts::{Chart, Holding, Line, hold_at};
+use keys::NAMES;
+
+/// How many releases a fork has.
+const RELEASES: usize = 3;
+
+/// The number that a fork's releases carry, or none of them.
+const NUMBER: usize = 5;
 
 /// A fork: releases 1 and 2 follow release 0; all carry the number 5, or none does.
 #[derive(Clone, Copy)]
@@ -28,15 +35,15 @@ impl Chart for Fork {
     ghost persistent = { Prim.search rules };
 
     fn size(&self) -> usize {
-        3
+        RELEASES
     }
 
     fn follows(&self, release: usize, later: usize) -> bool {
-        later < 3 && (later == release || release == 0)
+        later < RELEASES && (later == release || release == 0)
     }
 
     fn carries(&self, release: usize, number: usize) -> bool {
-        release < 3 && number == 5 && self.carried
+        release < RELEASES && number == NUMBER && self.carried
     }
 }
 
@@ -44,10 +51,8 @@ impl Chart for Fork {
 pub fn still_carried<C: Chart>(chart: &C, release: usize, later: usize, number: usize) -> bool
     ensures { result ≡ true }
 {
-    if chart.follows(release, later) && chart.carries(release, number) {
-        return chart.carries(later, number);
-    }
-    true
+    let holds_before = chart.follows(release, later) && chart.carries(release, number);
+    !holds_before || chart.carries(later, number)
 }
 
 /// The last release of a chart; every chart has one.
@@ -70,12 +75,9 @@ pub fn at_the_fork(
 }
 
 /// Two releases in a row: the second follows the first.
-pub fn second_follows(first: &[u8; 64]) -> bool
+pub fn second_follows(first: &[u8; NAMES]) -> bool
     ensures { result ≡ true }
 {
     let mut line = Line::new();
-    if line.fill(2, first).is_err() {
-        return true;
-    }
-    line.follows(0, 1)
+    line.fill(2, first).is_err() || line.follows(0, 1)
 }

@@ -1,6 +1,6 @@
 -- How writes to a buffer follow one another.
-use Rattle.std.proofs.Common.{◌≡◌, ℕ, zero, suc, ◌+◌, ◌-◌, ◌<◌, ◌≤◌, List, [], ◌∷◌, ◌++◌, length, take, drop, set, replicate, sym, refl, ap, ◌∙◌, append_assoc, append-nil, arith, length-append, length-drop, length-take}
-use Rattle.std.proofs.lemmas.List.{drop_all, take_all, take-take, take_at, take_more_set}
+use Rattle.std.proofs.Common.{◌≡◌, ℕ, zero, suc, ◌≤◌, List, [], ◌∷◌, ◌++◌, length, take, sym, refl, ap, ◌∙◌, append_assoc, arith, length-append}
+use Rattle.std.proofs.lemmas.List.{take_all, take-take}
 use Rattle.prover.specs.Written.{Wrote}
 
 -- cutting the front first changes nothing of what fits
@@ -16,13 +16,6 @@ wrote_twice out n t mid m u out' n' same p q = record {
   longer = simp length-append (omega (arith, p.longer, q.longer));
   holds = q.holds ∙ ap (λ c. take c (take m mid ++ u)) same ∙ ap (λ l. take (length out) (l ++ u)) p.holds
       ∙ take_front (length out) (take n out ++ t) u ∙ ap (take (length out)) (append_assoc (take n out) t u);
-}
-
--- nothing is written
-pub wrote_nothing : (out : List ℕ) (n : ℕ) → Wrote out n [] out n
-wrote_nothing out n = record {
-  longer = omega arith;
-  holds = sym (ap (take (length out)) (append-nil (take n out)) ∙ take_all (length out) (take n out) (simp length-take (omega arith)));
 }
 
 -- the front of a text, and behind it what fits
@@ -43,31 +36,6 @@ wrote_keeps out n t out' n' p =
 -- a shorter front is kept too
 pub kept_less : (m n : ℕ) (out out' : List ℕ) → m ≤ n → take n out' ≡ take n out → take m out' ≡ take m out
 kept_less m n out out' h e = sym (take-take m n out' h) ∙ ap (take m) e ∙ take-take m n out h
-
--- one byte, written where there is room
-pub wrote_in : (out : List ℕ) (n b : ℕ) → n < length out → Wrote out n (b ∷ []) (set out n b) (n + 1)
-wrote_in out n b h = record {
-  longer = refl;
-  holds = take_more_set out n b h
-      ∙ sym (take_all (length out) (take n out ++ b ∷ []) (simp (length-append, length-take) (omega arith)));
-}
-
--- one byte that finds no room
-pub wrote_past : (out : List ℕ) (n b : ℕ) → length out ≤ n → Wrote out n (b ∷ []) out (n + 1)
-wrote_past out n b h = record {
-  longer = refl;
-  holds = take_all (n + 1) out (omega arith)
-      ∙ sym (ap (λ l. take (length out) (l ++ b ∷ [])) (take_all n out h) ∙ take_at out (b ∷ []) (length out) refl);
-}
-
--- zeros from a place on, as a write to `out[a..]` leaves them
-pub cleared : (a : ℕ) (xs ys : List ℕ) → a ≤ length xs → ys ≡ replicate (length (take (length xs - a) (drop a xs))) 0
-    → take a xs ++ (ys ++ drop (length xs - a) (drop a xs)) ≡ take a xs ++ replicate (length xs - a) 0
-cleared a xs ys h e =
-    let n : length (take (length xs - a) (drop a xs)) ≡ length xs - a = simp (length-take, length-drop) (omega arith) in
-    let l : length (drop a xs) ≤ length xs - a = simp length-drop (omega arith) in
-    ap (λ zs. take a xs ++ zs)
-    (ap (λ zs. ys ++ zs) (drop_all (length xs - a) (drop a xs) l) ∙ append-nil ys ∙ e ∙ ap (λ m. replicate m 0) n)
 
 -- a text from the start that fits is there as a whole
 pub wrote_whole : (out t out' : List ℕ) (n : ℕ) → Wrote out 0 t out' n → length out' ≡ length out → n ≤ length out' → take n out' ≡ t

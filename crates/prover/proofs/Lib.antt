@@ -1,4 +1,5 @@
 mod Buffers
+mod Items
 mod Steps
 mod Trails
 mod Settling

@@ -1,6 +1,7 @@
 -- The steps of the check at a place of the bytes.
-use Rattle.std.proofs.Common.{◌≡◌, ℕ, ◌+◌, ◌<◌, ◌≤◌, Bool, T, List, [], ◌∷◌, ◌++◌, length, get_or, drop, Ok, Err, Result, sym, refl, ap, ◌∙◌, subst, arith}
+use Rattle.std.proofs.Common.{◌≡◌, ℕ, ◌+◌, ◌<◌, ◌≤◌, Bool, T, List, [], ◌∷◌, ◌++◌, length, get_or, drop, Some, None, Ok, Err, Option, Result, sym, refl, ap, ◌∙◌, subst, arith}
 use Rattle.std.proofs.lemmas.List.{drop_more, drop_all}
+use Rattle.std.specs.Option.{ok_or}
 use Rattle.logic.proofs.Check.{check_right}
 use Rattle.logic.proofs.Rejection.{rejects_right}
 use Rattle.logic.specs.Check.{body_queries, Answers, none_waits, rule_byte, restart_byte, Rejects, too_many, no_kind, no_record, wrong_kind, no_restart, wrong_record, after_record, after_restart}
@@ -8,7 +9,8 @@ use Rattle.logic.specs.Rules as rules
 use Rattle.logic.specs.Rules.{head_of, bodies_of, supposing}
 use Rattle.logic.specs.Search.{Query}
 use Rattle.logic.specs.Trees.{Applies}
-use Rattle.prover.specs.Read.{Judged, OfTrees, Took}
+use Rattle.book.specs.declared.number.RecordNumber.{RecordNumber}
+use Rattle.prover.specs.Read.{Judged, OfTrees, Took, Applying}
 use Rattle.prover.specs.Settings.{query_of}
 use Rattle.prover.specs.declared.verdict.Misread.{Misread}
 use Rattle.prover.specs.declared.verdict.Verdict.{Verdict}
@@ -67,15 +69,61 @@ pub took_restart : (book : rules.Book) (restart : Bool) (g : ℕ) (t : List ℕ)
 took_restart book restart g t p q (Ok e) h y n d = (omega arith, d.1, λ qs v z. read_restart book restart g t p q qs v h y n (d.2 qs v z))
 took_restart book restart g t p q (Err m) h y n d = λ qs. read_restart book restart g t p q qs (Rejected m.place) h y n (d qs)
 
--- the next body's query waits first of those from the i-th body on
-pub queries_next : (book : rules.Book) (S : ℕ) (rs : List ℕ) (i r V x : ℕ) (qs : List Query) → i < length rs → get_or rs i 0 ≡ r
-    → V ≡ supposing book S r → x ≡ head_of book r
-    → body_queries book S (drop i rs) ++ qs ≡ query_of V x ∷ (body_queries book S (drop (i + 1) rs) ++ qs)
-queries_next book S rs i r V x qs lt er eV ex =
-    ap (λ (l : List ℕ). body_queries book S l ++ qs) (drop_more rs i 0 lt)
-    ∙ ap (λ (y : ℕ). query_of (supposing book S y) (head_of book y) ∷ (body_queries book S (drop (i + 1) rs) ++ qs)) er
-    ∙ sym (ap (λ (y : ℕ). query_of y x ∷ (body_queries book S (drop (i + 1) rs) ++ qs)) eV
-    ∙ ap (λ (y : ℕ). query_of (supposing book S r) y ∷ (body_queries book S (drop (i + 1) rs) ++ qs)) ex)
+-- a record that was looked for applies, or none does, and its byte is where the reading ends
+pub applied : (book : rules.Book) (S x r : ℕ) (o : Option RecordNumber) (n : RecordNumber) → o ≡ Some n → Applying book S x r o
+    → (n.index ≡ r) × Applies book S x r
+applied book S x r o n e d = subst (Applying book S x r) e d
+
+pub unapplied : (book : rules.Book) (S x r p : ℕ) (o : Option RecordNumber) (m : Misread) → Err m ≡ ok_or o (record { place = p })
+    → Applying book S x r o → (m ≡ record { place = p }) × (Applies book S x r → ⊥)
+unapplied book S x r p (Some n) m e d = absurd (cc)
+unapplied book S x r p None m e d = (cc, d)
+
+-- The query at place p succeeds by a rule, and the trees of its bodies before those left were read up to place e: those left
+-- decide.
+pub record Partly (book : rules.Book) (restart : Bool) (g : ℕ) (t : List ℕ) (p : ℕ) (q : Query) (left : List ℕ) (e : ℕ) : Type 0 where
+  pub on : p < e
+  pub within : e ≤ length t
+  pub rest : (qs : List Query) (v : Verdict) → Judged book restart g (body_queries book q.in_force left ++ qs) e (drop e t) v
+      → Judged book restart g (q ∷ qs) p (drop p t) v
+
+module _ (book : rules.Book) (restart : Bool) (g : ℕ) (t : List ℕ) (p : ℕ) (q : Query) where
+  -- the two bytes were read
+  pub partly_begun : (r : ℕ) (left : List ℕ) → p + 1 < length t → get_or t p 0 ≡ 1 → r ≡ get_or t (p + 1) 0 → Applies book q.in_force q.name r
+      → left ≡ bodies_of book r → Partly book restart g t p q left (p + 1 + 1)
+  partly_begun r left h one is a all = record {
+    on = omega arith;
+    within = omega arith;
+    rest = λ qs v d. read_rule book restart g t p q qs (p + 1 + 1) v h one (omega arith) (subst (λ (n : ℕ). Applies book q.in_force q.name n) is a)
+        (subst (λ (rs : List ℕ). Judged book restart g (body_queries book q.in_force rs ++ qs) (p + 1 + 1) (drop (p + 1 + 1) t) v) (all ∙ ap (bodies_of book) is) d);
+  }
+
+  module _ (left : List ℕ) (e : ℕ) (part : Partly book restart g t p q left e) where
+    -- none is left
+    pub partly_all : left ≡ [] → Took book restart g q t p (Ok e)
+    partly_all none = (
+      omega (arith, part.on),
+      part.within,
+      λ qs v d. part.rest qs v (subst (λ (rs : List ℕ). Judged book restart g (body_queries book q.in_force rs ++ qs) e (drop e t) v) (sym none) d),
+    )
+
+    -- the tree of the next one is read
+    module _ (r V x : ℕ) (more : List ℕ) (first : left ≡ r ∷ more) (set : V ≡ supposing book q.in_force r) (name : x ≡ head_of book r) where
+      waits : (qs : List Query) → body_queries book q.in_force left ++ qs ≡ query_of V x ∷ (body_queries book q.in_force more ++ qs)
+      waits qs =
+          ap (λ (rs : List ℕ). body_queries book q.in_force rs ++ qs) first
+          ∙ sym (ap (λ (S : ℕ). query_of S x ∷ (body_queries book q.in_force more ++ qs)) set
+          ∙ ap (λ (y : ℕ). query_of (supposing book q.in_force r) y ∷ (body_queries book q.in_force more ++ qs)) name)
+
+      before : (qs : List Query) (v : Verdict) → Judged book restart g (query_of V x ∷ (body_queries book q.in_force more ++ qs)) e (drop e t) v
+          → Judged book restart g (q ∷ qs) p (drop p t) v
+      before qs v d = part.rest qs v (subst (λ (ws : List Query). Judged book restart g ws e (drop e t) v) (sym (waits qs)) d)
+
+      pub partly_more : (e' : ℕ) → Took book restart g (query_of V x) t e (Ok e') → Partly book restart g t p q more e'
+      partly_more e' k = record { on = omega (arith, part.on, k.0); within = k.1; rest = λ qs v d. before qs v (k.2 _ v d) }
+
+      pub partly_failed : (m : Misread) → Took book restart g (query_of V x) t e (Err m) → Took book restart g q t p (Err m)
+      partly_failed m k qs = before qs (Rejected m.place) (k _)
 
 -- the end of the bytes, and a byte too many
 pub read_end : (book : rules.Book) (restart : Bool) (g : ℕ) (t : List ℕ) (e : ℕ) → length t ≤ e → Judged book restart g [] e (drop e t) Accepted

@@ -4,7 +4,11 @@ use Rattle.logic.specs.Check.{Answers, Rejects}
 use Rattle.logic.specs.Rules as rules
 use Rattle.logic.specs.Search.{Query}
 use Rattle.logic.specs.Trees.{Applies, Tree, bytes}
+use Rattle.book.specs.Books.{records_of}
 use Rattle.book.specs.declared.number.RecordNumber.{RecordNumber}
+use Rattle.prover.specs.Settings.{allowed, query_of}
+use Rattle.prover.specs.declared.trees.Query as asked
+use Rattle.prover.specs.declared.trees.Reading.{Reading}
 use Rattle.prover.specs.declared.verdict.Misread.{Misread}
 use Rattle.prover.specs.declared.verdict.Verdict.{Verdict}
 use Rattle.prover.specs.declared.verdict.Verdict.TheVariants.{Accepted, Rejected}
@@ -31,3 +35,7 @@ Took book restart g q bs i (Err m) = (qs : List Query) → Rejects book restart 
 abbrev pub Applying : rules.Book → ℕ → ℕ → ℕ → Option RecordNumber → Type 0
 Applying book S x r (Some n) = (n.index ≡ r) × Applies book S x r
 Applying book S x r None = Applies book S x r → ⊥
+
+-- what a reading tells of a query from place i on
+abbrev pub Reads : Reading → asked.Query → ℕ → Result ℕ Misread → Type 0
+Reads r q = Took (records_of r.book.now) (allowed r.restart) r.goal.index (query_of q.set.bits q.name.index) r.bytes.now

@@ -12,6 +12,7 @@ pub struct InForce {
     pub begun: u64,
 }
 
+// Words of 64 bits, where those of `RecordSet` have 128: a trait of words for one shift would be longer than the shifts.
 impl InForce {
     /// Tells whether the name was begun with this set.
     pub fn has_begun(&self, name: KeyNumber) -> bool

@@ -1,10 +1,11 @@
 //! The prover: the search for a success tree of a goal, and the check of the bytes of one.
 #![tactic(auto)]
 
-mod found;
 mod in_force;
 mod outcome;
+mod progress;
 mod queries;
+mod step;
 mod task;
 mod trees;
 mod verdict;

@@ -1,15 +1,14 @@
 //! The search.
-ghost use Rattle.std.specs.Prelude.{◌≡◌, ◌+◌, ◌-◌, ◌*◌, ◌^◌, ◌<◌, ◌≤◌, [], ◌∷◌, ◌++◌, length, take};
+ghost use Rattle.std.specs.Prelude.{◌≡◌, ◌+◌, ◌-◌, ◌*◌, ◌<◌, ◌≤◌, [], ◌∷◌, ◌++◌, length, take};
 ghost use Rattle.book.specs.Books.{records_of};
 ghost use Rattle.prover.specs.Settled.{zeros, Settled, Shown};
-ghost use Rattle.prover.specs.Told.{Told, NameAsked, RulesTried, BodiesAsked, BodyAsked};
-ghost use Rattle.prover.specs.Written.{Wrote};
+ghost use Rattle.prover.specs.Told.{setting_of, Kept, Told, Writes, NameAsked, RulesTried, BodiesAsked, BodyAsked};
 
-use crate::found::{Found, Progress};
 use crate::in_force::{InForce, Trial};
 use crate::outcome::Outcome;
+use crate::progress::{Progress, Search, Spent};
+use crate::step::Step;
 use crate::task::{Restart, Task};
-use crate::trees::{BY_RESTART, BY_RULE};
 use book::{Book, RecordNumber, RecordSet};
 use keys::KeyNumber;
 
@@ -20,25 +19,33 @@ pub fn search(book: &Book, task: &Task, set: RecordSet, out: &mut [u8]) -> Outco
     ensures tree { Shown book.now task.now set.bits out.new result }
 {
     let mut force = InForce { set, begun: 0 };
-    let mut progress = Progress { count: 0, len: 0 };
-    let found = query(book, task, &mut force, task.goal, &mut progress, out);
-    let count = progress.count;
-    let len = progress.len;
+    let mut search = Search {
+        book,
+        goal: task.goal,
+        restart: task.restart,
+        progress: Progress {
+            count: 0,
+            budget: task.budget,
+            len: 0,
+        },
+        out,
+    };
+    let found = search.query(&mut force, task.goal);
+    let Progress { count, len, .. } = search.progress;
     match found {
-        Found::Yes => {
-            if len <= out.len() {
-                clear(out, len);
-                Outcome::Yes { count, len }
-            } else {
-                clear(out, 0);
-                Outcome::Long { count, len }
-            }
+        Ok(true) if len <= out.len() => {
+            clear(out, len);
+            Outcome::Yes { count, len }
         }
-        Found::No => {
+        Ok(true) => {
+            clear(out, 0);
+            Outcome::Long { count, len }
+        }
+        Ok(false) => {
             clear(out, 0);
             Outcome::No { count }
         }
-        Found::Spent => {
+        Err(Spent) => {
             clear(out, 0);
             Outcome::Spent { count }
         }
@@ -53,168 +60,142 @@ fn clear(out: &mut [u8], from: usize)
     out[from..].fill(0);
 }
 
-/// Writes one more byte of the tree, where there is room.
-fn push(out: &mut [u8], progress: &mut Progress, byte: u8)
-    requires { progress.old.len < 2 ^ 32 }
-    ensures same { progress.new.count ≡ progress.old.count }
-    ensures wrote { Wrote out.old progress.old.len (byte ∷ []) out.new progress.new.len }
-{
-    if progress.len < out.len() {
-        out[progress.len] = byte;
-    }
-    progress.len += 1;
-}
-
-/// Asks a name from the set in force.
-#[cycle(queries)]
-fn query(
-    book: &Book,
-    task: &Task,
-    force: &mut InForce,
-    name: KeyNumber,
-    progress: &mut Progress,
-    out: &mut [u8],
-) -> Found
-    requires { (progress.old.count ≤ task.now.budget) × (progress.old.len ≤ 2 * progress.old.count) }
-    ensures counted { (progress.new.count ≤ task.now.budget) × (progress.old.count ≤ progress.new.count) }
-    ensures short { progress.new.len ≤ 2 * progress.new.count }
-    ensures back { force.new ≡ force.old }
-    ensures told { Told (NameAsked book.now task.now force.old name.index progress.old.count progress.new.count) [] out.old progress.old.len out.new progress.new.len result }
-{
-    if force.has_begun(name) {
-        return Found::No;
-    }
-    if progress.count == task.budget {
-        return Found::Spent;
-    }
-    progress.count += 1;
-    let begun = force.begun;
-    force.begin(name);
-    let found = try_rules(book, task, force, name, progress, out);
-    force.begun = begun;
-    found
-}
-
-/// Tries the records in force with this head, by rising number, and then the restart.
-#[cycle(queries)]
-fn try_rules(
-    book: &Book,
-    task: &Task,
-    force: &mut InForce,
-    name: KeyNumber,
-    progress: &mut Progress,
-    out: &mut [u8],
-) -> Found
-    requires { (progress.old.count ≤ task.now.budget) × (progress.old.len + 2 ≤ 2 * progress.old.count) }
-    ensures counted { (progress.new.count ≤ task.now.budget) × (progress.old.count ≤ progress.new.count) }
-    ensures short { progress.new.len ≤ 2 * progress.new.count }
-    ensures back { force.new ≡ force.old }
-    ensures told { Told (RulesTried book.now task.now force.old name.index progress.old.count progress.new.count) [] out.old progress.old.len out.new progress.new.len result }
-{
-    let set = force.set;
-    let mut left = set.common(book.with_head(name));
-    while let Some(number) = left.first() {
-        left = left.rest();
-        match try_rule(book, task, force, set, number, progress, out) {
-            Found::Yes => return Found::Yes,
-            Found::Spent => return Found::Spent,
-            Found::No => {}
+// `force` is lent beside the search, as the guard lends it on: so each step says that it is back.
+// Room for a step is no field of `Progress`: it is false once the step's bytes are written.
+impl Search<'_> {
+    /// Writes one more byte of the tree, where there is room.
+    fn push(&mut self, byte: u8)
+        requires { self.old.progress.len < 2 * self.old.progress.count }
+        ensures kept { Kept self.old self.new }
+        ensures same { self.new.progress.count ≡ self.old.progress.count }
+        ensures wrote { Writes self.old (byte ∷ []) self.new }
+    {
+        let len = self.progress.len;
+        if len < self.out.len() {
+            // By index: of a byte that is written through `get_mut` nothing can be proved.
+            self.out[len] = byte;
         }
+        // The length goes on past the buffer's end, as `Long` tells it.
+        self.progress.len = len + 1;
     }
-    match task.restart {
-        Restart::Allowed => try_restart(book, task, force, progress, out),
-        Restart::Forbidden => Found::No,
-    }
-}
 
-/// Asks the goal's head from the set in force.
-#[cycle(queries)]
-fn try_restart(
-    book: &Book,
-    task: &Task,
-    force: &mut InForce,
-    progress: &mut Progress,
-    out: &mut [u8],
-) -> Found
-    requires { (progress.old.count ≤ task.now.budget) × (progress.old.len + 2 ≤ 2 * progress.old.count) }
-    ensures counted { (progress.new.count ≤ task.now.budget) × (progress.old.count ≤ progress.new.count) }
-    ensures short { progress.new.len ≤ 2 * progress.new.count }
-    ensures back { force.new ≡ force.old }
-    ensures told { Told (NameAsked book.now task.now force.old task.now.goal.index progress.old.count progress.new.count) (2 ∷ []) out.old progress.old.len out.new progress.new.len result }
-{
-    let mark = progress.len;
-    push(out, progress, BY_RESTART);
-    let found = query(book, task, force, task.goal, progress, out);
-    if let Found::No = found {
-        progress.len = mark;
+    /// Asks a name from the set in force.
+    #[cycle(queries)]
+    fn query(&mut self, force: &mut InForce, name: KeyNumber) -> Result<bool, Spent>
+        ensures kept { Kept self.old self.new }
+        ensures back { force.new ≡ force.old }
+        ensures told { Told (NameAsked (setting_of self.old) force.old name.index) [] self.old self.new result }
+    {
+        if force.has_begun(name) {
+            return Ok(false);
+        }
+        if self.progress.count == self.progress.budget {
+            return Err(Spent);
+        }
+        self.progress.count += 1;
+        let begun = force.begun;
+        force.begin(name);
+        let found = self.try_rules(force, name);
+        // By hand, with no guard: only the mask changed, and the set is untouched.
+        force.begun = begun;
+        found
     }
-    found
-}
 
-/// Tries one record: all its bodies in order. The set in force is also passed by value, so that it is read once for all of
-/// a query's rules.
-#[cycle(queries)]
-fn try_rule(
-    book: &Book,
-    task: &Task,
-    force: &mut InForce,
-    set: RecordSet,
-    number: RecordNumber,
-    progress: &mut Progress,
-    out: &mut [u8],
-) -> Found
-    requires { (set ≡ force.old.set) × ((number.index < length (records_of book.now)) × ((progress.old.count ≤ task.now.budget) × (progress.old.len + 2 ≤ 2 * progress.old.count))) }
-    ensures counted { (progress.new.count ≤ task.now.budget) × (progress.old.count ≤ progress.new.count) }
-    ensures short { progress.new.len ≤ 2 * progress.new.count }
-    ensures back { force.new ≡ force.old }
-    ensures told { Told (BodiesAsked book.now task.now force.old number.index progress.old.count progress.new.count) (1 ∷ number.index ∷ []) out.old progress.old.len out.new progress.new.len result }
-{
-    let mark = progress.len;
-    push(out, progress, BY_RULE);
-    push(out, progress, number.index);
-    let bodies = book.bodies(number);
-    for i in 0..bodies.len {
-        match try_body(book, task, force, set, bodies.at[i as usize], progress, out) {
-            Found::Yes => {}
-            Found::No => {
-                progress.len = mark;
-                return Found::No;
+    /// Tries the records in force with this head, by rising number, and then the restart.
+    #[cycle(queries)]
+    fn try_rules(&mut self, force: &mut InForce, name: KeyNumber) -> Result<bool, Spent>
+        requires { self.old.progress.len + 2 ≤ 2 * self.old.progress.count }
+        ensures kept { Kept self.old self.new }
+        ensures back { force.new ≡ force.old }
+        ensures told { Told (RulesTried (setting_of self.old) force.old name.index) [] self.old self.new result }
+    {
+        let set = force.set;
+        for number in set.common(self.book.with_head(name)) {
+            if self.try_rule(force, set, number)? {
+                return Ok(true);
             }
-            Found::Spent => return Found::Spent,
+        }
+        match self.restart {
+            Restart::Allowed => self.try_restart(force),
+            Restart::Forbidden => Ok(false),
         }
     }
-    Found::Yes
-}
 
-/// Asks a body's head with its own bodies put in force; where these are there already, nothing has to be put back.
-#[cycle(queries)]
-fn try_body(
-    book: &Book,
-    task: &Task,
-    force: &mut InForce,
-    set: RecordSet,
-    body: RecordNumber,
-    progress: &mut Progress,
-    out: &mut [u8],
-) -> Found
-    requires { (set ≡ force.old.set) × ((body.index < length (records_of book.now)) × ((progress.old.count ≤ task.now.budget) × (progress.old.len ≤ 2 * progress.old.count))) }
-    ensures counted { (progress.new.count ≤ task.now.budget) × (progress.old.count ≤ progress.new.count) }
-    ensures short { progress.new.len ≤ 2 * progress.new.count }
-    ensures back { force.new ≡ force.old }
-    ensures told { Told (BodyAsked book.now task.now force.old body.index progress.old.count progress.new.count) [] out.old progress.old.len out.new progress.new.len result }
-{
-    let wider = book.supposing(set, body);
-    if wider.equals(set) {
-        return query(book, task, force, book.head(body), progress, out);
+    /// Asks the goal's head from the set in force.
+    #[cycle(queries)]
+    fn try_restart(&mut self, force: &mut InForce) -> Result<bool, Spent>
+        requires { self.old.progress.len + 2 ≤ 2 * self.old.progress.count }
+        ensures kept { Kept self.old self.new }
+        ensures back { force.new ≡ force.old }
+        ensures told { Told (NameAsked (setting_of self.old) force.old self.old.goal.index) (2 ∷ []) self.old self.new result }
+    {
+        let mark = self.progress.len;
+        self.push(Step::Restart as u8);
+        if self.query(force, self.goal)? {
+            return Ok(true);
+        }
+        self.progress.len = mark;
+        Ok(false)
     }
-    let saved = InForce {
-        set,
-        begun: force.begun,
-    };
-    let trial = Trial { force, saved };
-    *trial.force = InForce {
-        set: wider,
-        begun: 0,
-    };
-    query(book, task, trial.force, book.head(body), progress, out)
+
+    /// Tries one record: all its bodies in order.
+    // The set in force is also passed by value, so that it is read once for all of a query's rules.
+    #[cycle(queries)]
+    fn try_rule(
+        &mut self,
+        force: &mut InForce,
+        set: RecordSet,
+        number: RecordNumber,
+    ) -> Result<bool, Spent>
+        requires set { set ≡ force.old.set }
+        requires used { number.index < length (records_of self.old.book.now) }
+        requires room { self.old.progress.len + 2 ≤ 2 * self.old.progress.count }
+        ensures kept { Kept self.old self.new }
+        ensures back { force.new ≡ force.old }
+        ensures told { Told (BodiesAsked (setting_of self.old) force.old number.index) (1 ∷ number.index ∷ []) self.old self.new result }
+    {
+        let mark = self.progress.len;
+        self.push(Step::Rule as u8);
+        self.push(number.index);
+        let book = self.book;
+        for body in book.bodies(number).as_slice() {
+            if !self.try_body(force, set, *body)? {
+                self.progress.len = mark;
+                return Ok(false);
+            }
+        }
+        Ok(true)
+    }
+
+    /// Asks a body's head with its own bodies put in force; where these are there already, nothing has to be put back.
+    #[cycle(queries)]
+    fn try_body(
+        &mut self,
+        force: &mut InForce,
+        set: RecordSet,
+        body: RecordNumber,
+    ) -> Result<bool, Spent>
+        requires set { set ≡ force.old.set }
+        requires used { body.index < length (records_of self.old.book.now) }
+        ensures kept { Kept self.old self.new }
+        ensures back { force.new ≡ force.old }
+        ensures told { Told (BodyAsked (setting_of self.old) force.old body.index) [] self.old self.new result }
+    {
+        let head = self.book.head(body);
+        let wider = self.book.supposing(set, body);
+        if wider == set {
+            return self.query(force, head);
+        }
+        let saved = InForce {
+            set,
+            begun: force.begun,
+        };
+        // A literal: a constructor would have to say that it holds the same reference, and be longer.
+        let trial = Trial { force, saved };
+        *trial.force = InForce {
+            set: wider,
+            begun: 0,
+        };
+        self.query(trial.force, head)
+    }
 }

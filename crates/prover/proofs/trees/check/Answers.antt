@@ -10,19 +10,19 @@ returns-in-Err c =
     let d = c.in-Err.ensures [] in
     record {
       judged = d;
-      trees = of_trees (records_of c.args.book.now) (allowed c.args.restart) c.args.goal.index c.args.set.bits c.args.bytes.now (Rejected c.in-Err.misread.place) d;
+      trees = of_trees (records_of c.args.book.now) (allowed c.args.restart) c.args.goal.index c.args.set.bits c.args.bytes.now (Rejected c.in-Err.field-0.place) d;
     }
 
-pub returns-then-end-bytes : goal.returns-then-end-bytes
-returns-then-end-bytes c =
+pub returns-in-Ok : goal.returns-in-Ok
+returns-in-Ok c =
     let book = records_of c.args.book.now in
     let restart = allowed c.args.restart in
     let g = c.args.goal.index in
     let d = c.in-Ok.ensures.2 [] (Rejected c.in-Ok.end) (read_extra book restart g c.args.bytes.now c.in-Ok.end c.if-end-bytes.true) in
     record { judged = d; trees = of_trees book restart g c.args.set.bits c.args.bytes.now (Rejected c.in-Ok.end) d }
 
-pub returns-else-end-bytes : goal.returns-else-end-bytes
-returns-else-end-bytes c =
+pub returns-in-Ok-2 : goal.returns-in-Ok-2
+returns-in-Ok-2 c =
     let book = records_of c.args.book.now in
     let restart = allowed c.args.restart in
     let g = c.args.goal.index in
