@@ -1,12 +1,13 @@
 -- What carrying out a call comes to, from what the call does.
-use Rattle.std.proofs.Common.{◌≡◌, ℕ, zero, suc, ◌<◌, ◌≤◌, List, [], ◌∷◌, map, length, get_or, sym, refl, ap, ◌∙◌, subst, arith, Bor}
-use mathlib.Core.Option.{Option, none, some, none-ne-some}
+use Rattle.std.proofs.Common.{◌≡◌, ℕ, zero, suc, ◌<◌, ◌≤◌, List, [], ◌∷◌, map, length, get_or, sym, refl, ap, ◌∙◌, subst, arith, Bor, Some, None, Option as Maybe}
+use Rattle.std.specs.Slice.{IsItemAt}
+use mathlib.Core.Option.{Option, none, some}
 use Rattle.std.proofs.lemmas.List.{nil_from_length}
 use Rattle.logic.specs.Charts.{Chart}
 use Rattle.reader.specs.Written.{Kind}
 use Rattle.law.specs.Calls as law
 use Rattle.law.specs.Calls.{Tally, Takes}
-use Rattle.service.specs.Calls.{room_of, chart_at, look_at, call_of, answer_of}
+use Rattle.service.specs.Calls.{room_of, chart_of, chart_at, look_at, call_of, answer_of}
 use Rattle.service.specs.Represents.{Represents, Does}
 use Rattle.service.specs.Replaying.{Came, CarriesOut, Looks}
 use Rattle.service.specs.declared.calls.Answer.{Answer}
@@ -59,17 +60,8 @@ chart_absent value [] n l = refl
 chart_absent value (c ∷ cs) zero l = absurd (omega (arith, l))
 chart_absent value (c ∷ cs) (suc n) l = chart_absent value cs n (omega (arith, l))
 
-module _ {K C : Type 0} (kind : Kind K) (value : C → Chart) (charts : List C) (goal : List ℕ) (n release : ℕ) where
-  pub looks : (s s' : Sealed K) (x : law.Answer) (c : C) → n < length charts → get_or charts n c ≡ c
-      → Does kind (law.look goal (value c) release) (Shut s) x [] (Shut s') → (a : Answer) → answer_of a ≡ some x
-      → Looks kind goal release (chart_at (map value charts) n) s a s'
-  looks s s' x c l is does a e =
-      subst (λ (o : Option Chart). Looks kind goal release o s a s') (sym (chart_there value charts n c l ∙ ap (λ (y : C). some (value y)) is))
-      (λ slots t h. carried kind (law.look goal (value c) release) (Shut s) (Shut s') x [] does a e slots t [] [] refl h)
-
-  pub looks_past : (s : Sealed K) (a : Answer) → length charts ≤ n → answer_of a ≡ none → Looks kind goal release (chart_at (map value charts) n) s a s
-  looks_past s a l e =
-      subst (λ (o : Option Chart). Looks kind goal release o s a s) (sym (chart_absent value charts n l))
-      (λ slots t h.
-      subst (λ (o : Option law.Answer). Came kind slots t none [] o [] (Shut s)) (sym e)
-      (λ k called. absurd (none-ne-some k called), refl, h))
+-- a chart that is looked up by its place
+pub chart_got : {C : Type 0} (value : C → Chart) (charts : List C) (n : ℕ) (o : Maybe (Bor C)) → IsItemAt charts n o
+    → chart_of value o ≡ chart_at (map value charts) n
+chart_got value charts n None item = sym (chart_absent value charts n item.3)
+chart_got {C} value charts n (Some x) item = sym (chart_there value charts n x.now item.3.0 ∙ ap (λ (y : C). some (value y)) (sym item.1))

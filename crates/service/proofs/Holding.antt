@@ -6,7 +6,6 @@ use Rattle.logic.specs.Rules as rules
 use Rattle.logic.specs.Rules.{rule, more}
 use Rattle.logic.specs.Store.{store, stores, numbers, number_of}
 use Rattle.keys.specs.Kept.{Front}
-use Rattle.keys.specs.declared.register.Register.{Register}
 use Rattle.keys.proofs.Numbering.{front_take}
 use Rattle.book.specs.Books.{PutInForce, records_of, names_of, needed}
 use Rattle.book.specs.declared.book.Book.{Book}
@@ -14,6 +13,7 @@ use Rattle.law.specs.Standing.{Standing, behind}
 use Rattle.law.specs.Kept.{HeadsBelow, AllHeadsBelow}
 use Rattle.law.proofs.RecordsKept.{front_length, records_kept, number_within}
 use Rattle.service.specs.Contents.{Contents, held, held_with, Holds, GivenBack}
+use Rattle.service.specs.declared.state.Draft.{Draft}
 
 -- ---- how many names the heads need
 
@@ -45,12 +45,12 @@ pub record First {K : Type 0} (c c' : Contents K) : Type 0 where
   pub in_force : c'.in_force % 2 ^ length c.records ≡ c.in_force
   pub named : needed c.records ≤ length c.keys
 
-module _ {K : Type 0} (g g' : Register K) (b b' : Book) where
-  pub cut_back : (slots : ℕ) (c c' : Contents K) → First c c' → Holds slots c' g b
-      → GivenBack g b (record { records = length c.records; names = length c.keys }) g' b' → Holds slots c g' b'
+module _ {K : Type 0} (d d' : Draft K) where
+  pub cut_back : (slots : ℕ) (c c' : Contents K) → First c c' → Holds slots c' d
+      → GivenBack d (record { records = length c.records; names = length c.keys }) d' → Holds slots c d'
   cut_back slots c c' f h back =
       let cut = back.book in
-      let same_records : take (length c.records) (records_of b) ≡ c.records =
+      let same_records : take (length c.records) (records_of d.book) ≡ c.records =
       ap (take (length c.records)) h.book_is.records ∙ front_take f.records in
       record {
         slots_are = back.slots ∙ h.slots_are;
@@ -59,7 +59,7 @@ module _ {K : Type 0} (g g' : Register K) (b b' : Book) where
           records = cut.records ∙ same_records;
           names =
               cut.names
-              ∙ ap (λ (x : rules.Book). max (needed x) (min (length c.keys) (names_of b))) same_records
+              ∙ ap (λ (x : rules.Book). max (needed x) (min (length c.keys) (names_of d.book))) same_records
               ∙ omega (arith, f.named, h.book_is.names, front_length f.keys);
           in_force = cut.in_force ∙ ap (λ (S : ℕ). S % 2 ^ length c.records) h.book_is.in_force ∙ f.in_force;
         };
@@ -67,11 +67,12 @@ module _ {K : Type 0} (g g' : Register K) (b b' : Book) where
 
 -- ---- putting a rule in force
 
-module _ {K : Type 0} (g : Register K) (b b' : Book) where
+module _ {K : Type 0} (d : Draft K) (b' : Book) where
   pub put_in : (slots : ℕ) (s : Standing K) (ks : List K) (r : rules.Rule) (n : ℕ) → n ≡ number_of (stores [] s.rules) r
-      → Holds slots (held_with s ks r) g b → PutInForce b n b' → Holds slots (held (record { keys = ks; rules = behind s.rules r })) g b'
+      → Holds slots (held_with s ks r) d → PutInForce d.book n b'
+      → Holds slots (held (record { keys = ks; rules = behind s.rules r })) (record { register = d.register; book = b' })
   put_in slots s ks r n is h put =
-      let recorded : n < length (records_of b) =
+      let recorded : n < length (records_of d.book) =
       omega (arith, is, ap length h.book_is.records, (number_within r (stores [] s.rules)).1) in
       let shows = put.standing recorded in
       record {

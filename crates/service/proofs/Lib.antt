@@ -1,5 +1,3 @@
-mod Failing
-mod Ends
 mod Holding
 mod Doing
 mod Supposing

@@ -1,5 +1,5 @@
 -- Replaying one call more, and what is replayed in the end.
-use Rattle.std.proofs.Common.{◌≡◌, ℕ, ◌+◌, ◌-◌, ◌<◌, ◌≤◌, min, List, [], ◌∷◌, ◌++◌, length, get_or, take, drop, set, sym, refl, ap, ◌∙◌, subst, arith, length-append, length-drop, length-set, take-append-drop, length-take, drop-drop, drop-set-lt, take-add}
+use Rattle.std.proofs.Common.{◌≡◌, ℕ, ◌+◌, ◌-◌, ◌<◌, ◌≤◌, min, List, [], ◌∷◌, ◌++◌, length, get_or, take, drop, set, sym, refl, ap, ◌∙◌, subst, arith, length-append, length-drop, length-set, take-append-drop, length-take, drop-drop, drop-set-lt, Some, None, Option as Maybe, ◌⊎◌, inl, inr}
 use mathlib.Core.Option.{Option, none, some}
 use lib.Seq.{take-append_seam}
 use borrow.Rule.Slice.PartMut.{put_mid}
@@ -15,13 +15,14 @@ use Rattle.law.specs.OneRun.{calls}
 use Rattle.law.specs.Steps.{tally_after}
 use Rattle.service.specs.Calls.{room_of, call_of, answer_of}
 use Rattle.service.specs.Replays.{part, Replayed, none_yet, taken, passed_over, Replays}
-use Rattle.service.specs.Replaying.{Came, CarriesOut, Replaying}
-use Rattle.service.specs.Represents.{Represents, Does}
+use Rattle.service.specs.Replaying.{Came, CarriesOut, Carries, Replaying, turning, Turns}
+use Rattle.service.specs.Represents.{Represents}
 use Rattle.service.specs.declared.calls.Answer.{Answer}
 use Rattle.service.specs.declared.calls.Answer.TheVariants.{Done}
 use Rattle.service.specs.declared.calls.Call.{Call}
-use Rattle.service.specs.declared.place.Place.{Place}
+use Rattle.service.specs.declared.calls.Call.TheVariants.{Seal, Reopen}
 use Rattle.service.specs.declared.state.State.{State}
+use Rattle.service.specs.declared.state.State.TheVariants.{Open, Shut}
 use Rattle.service.proofs.Carrying.{carries_none}
 
 -- ---- runs that go on
@@ -75,127 +76,120 @@ pub put_same : (a k : ℕ) (xs : List ℕ) → put_mid a k xs (take k (drop a xs
 put_same a k xs = ap (λ (l : List ℕ). take a xs ++ l) (take-append-drop k (drop a xs)) ∙ take-append-drop a xs
 
 -- the bytes that a call is handed
-abbrev pub next_part : Call → Place → List ℕ → List ℕ
-next_part c p trees = take (room_of c) (drop p.byte trees)
-
-abbrev pub on : Place → List ℕ → Place
-on p bytes = record { call = p.call + 1; byte = p.byte + length bytes }
+abbrev pub next_part : Call → ℕ → List ℕ → List ℕ
+next_part c byte trees = take (room_of c) (drop byte trees)
 
 module _ {K : Type 0} (kind : Kind K) (charts : List Chart) (slots : ℕ) (trees₀ : List ℕ) (answers₀ : List Answer) (cs : List Call) where
-  abbrev StateAt : Place → List Answer → List ℕ → State K → Type 0
-  StateAt p answers trees s = Replaying kind charts slots trees₀ answers₀ cs p answers trees s
+  abbrev StateAt : ℕ → ℕ → List Answer → List ℕ → State K → Type 0
+  StateAt call byte answers trees s = Replaying kind charts slots trees₀ answers₀ cs call byte answers trees s
 
-  pub replay_one : (p : Place) (answers : List Answer) (trees trees' : List ℕ) (s s' : State K) (c : Call) (a : Answer) (after : List ℕ)
-      → StateAt p answers trees s → p.call < length cs → p.call < length answers → p.byte ≤ length trees → ((d : Call) → get_or cs p.call d ≡ c)
-      → CarriesOut kind charts c (next_part c p trees) s a after s'
-      → length after ≡ length (next_part c p trees)
-      → take (p.byte + length after) trees' ≡ take p.byte trees ++ after
-      → drop (p.byte + length after) trees' ≡ drop (p.byte + length after) trees → length trees' ≡ length trees
-      → StateAt (on p after) (set answers p.call a) trees' s'
-  replay_one p answers trees trees' s s' c a after h in_calls in_answers in_trees is carries same_length front back same =
-      let handed : length (take p.byte trees) ≡ p.byte = length-take p.byte trees ∙ omega arith in
-      let same_part : part trees₀ c (length (take p.byte trees)) ≡ next_part c p trees =
+  pub replay_one : (call byte : ℕ) (answers : List Answer) (trees trees' : List ℕ) (s s' : State K) (c : Call) (a : Answer) (after : List ℕ)
+      → StateAt call byte answers trees s → call < length cs → call < length answers → byte ≤ length trees → ((d : Call) → get_or cs call d ≡ c)
+      → CarriesOut kind charts c (next_part c byte trees) s a after s'
+      → length after ≡ length (next_part c byte trees)
+      → take (byte + length after) trees' ≡ take byte trees ++ after
+      → drop (byte + length after) trees' ≡ drop (byte + length after) trees → length trees' ≡ length trees
+      → StateAt (call + 1) (byte + length after) (set answers call a) trees' s'
+  replay_one call byte answers trees trees' s s' c a after h in_calls in_answers in_trees is carries same_length front back same =
+      let handed : length (take byte trees) ≡ byte = length-take byte trees ∙ omega arith in
+      let same_part : part trees₀ c (length (take byte trees)) ≡ next_part c byte trees =
       ap (λ (n : ℕ). part trees₀ c n) handed ∙ ap (take (room_of c)) (sym h.trees_left) in
-      let few : length (next_part c p trees) ≤ room_of c = omega (arith, length-take (room_of c) (drop p.byte trees)) in
-      let same_calls : take (p.call + 1) cs ≡ take p.call cs ++ c ∷ [] =
-      take_more cs p.call c in_calls ∙ ap (λ (x : Call). take p.call cs ++ x ∷ []) (is c) in
-      let same_answers : take (p.call + 1) (set answers p.call a) ≡ take p.call answers ++ a ∷ [] = take_more_set answers p.call a in_answers in
+      let few : length (next_part c byte trees) ≤ room_of c = omega (arith, length-take (room_of c) (drop byte trees)) in
+      let same_calls : take (call + 1) cs ≡ take call cs ++ c ∷ [] =
+      take_more cs call c in_calls ∙ ap (λ (x : Call). take call cs ++ x ∷ []) (is c) in
+      let same_answers : take (call + 1) (set answers call a) ≡ take call answers ++ a ∷ [] = take_more_set answers call a in_answers in
       go same_part same_calls same_answers (answer_of a) refl (carries slots h.tally few h.holds)
     where
       SoFar : List Event → Tally → Type 0
-      SoFar es t = Replayed kind charts slots trees₀ (take (p.call + 1) cs) (take (p.call + 1) (set answers p.call a)) (take (p.byte + length after) trees') es t
+      SoFar es t = Replayed kind charts slots trees₀ (take (call + 1) cs) (take (call + 1) (set answers call a)) (take (byte + length after) trees') es t
 
-      done : (bytes : List ℕ) → after ≡ bytes → take (p.call + 1) cs ≡ take p.call cs ++ c ∷ []
-          → take (p.call + 1) (set answers p.call a) ≡ take p.call answers ++ a ∷ [] → (es : List Event) (t : Tally)
-          → Replayed kind charts slots trees₀ (take p.call cs ++ c ∷ []) (take p.call answers ++ a ∷ []) (take p.byte trees ++ bytes) es t → SoFar es t
+      done : (bytes : List ℕ) → after ≡ bytes → take (call + 1) cs ≡ take call cs ++ c ∷ []
+          → take (call + 1) (set answers call a) ≡ take call answers ++ a ∷ [] → (es : List Event) (t : Tally)
+          → Replayed kind charts slots trees₀ (take call cs ++ c ∷ []) (take call answers ++ a ∷ []) (take byte trees ++ bytes) es t → SoFar es t
       done bytes e same_calls same_answers es t r =
-          subst (λ (l : List Call). Replayed kind charts slots trees₀ l (take (p.call + 1) (set answers p.call a)) (take (p.byte + length after) trees') es t) (sym same_calls)
-          (subst (λ (l : List Answer). Replayed kind charts slots trees₀ (take p.call cs ++ c ∷ []) l (take (p.byte + length after) trees') es t) (sym same_answers)
-          (subst (λ (l : List ℕ). Replayed kind charts slots trees₀ (take p.call cs ++ c ∷ []) (take p.call answers ++ a ∷ []) l es t)
-          (ap (λ (l : List ℕ). take p.byte trees ++ l) (sym e) ∙ sym front) r))
+          subst (λ (l : List Call). Replayed kind charts slots trees₀ l (take (call + 1) (set answers call a)) (take (byte + length after) trees') es t) (sym same_calls)
+          (subst (λ (l : List Answer). Replayed kind charts slots trees₀ (take call cs ++ c ∷ []) l (take (byte + length after) trees') es t) (sym same_answers)
+          (subst (λ (l : List ℕ). Replayed kind charts slots trees₀ (take call cs ++ c ∷ []) (take call answers ++ a ∷ []) l es t)
+          (ap (λ (l : List ℕ). take byte trees ++ l) (sym e) ∙ sym front) r))
 
-      left : (es : List Event) (t : Tally) → SoFar es t → Represents kind slots t s' → StateAt (on p after) (set answers p.call a) trees' s'
+      left : (es : List Event) (t : Tally) → SoFar es t → Represents kind slots t s' → StateAt (call + 1) (byte + length after) (set answers call a) trees' s'
       left es t r rep = record {
         events = es;
         tally = t;
         replayed = r;
         holds = rep;
         answers_left =
-            drop-set-lt (p.call + 1) answers p.call a (omega arith) ∙ sym (drop-drop 1 p.call answers) ∙ ap (drop 1) h.answers_left
-            ∙ drop-drop 1 p.call answers₀;
+            drop-set-lt (call + 1) answers call a (omega arith) ∙ sym (drop-drop 1 call answers) ∙ ap (drop 1) h.answers_left
+            ∙ drop-drop 1 call answers₀;
         trees_left =
-            back ∙ sym (drop-drop (length after) p.byte trees) ∙ ap (drop (length after)) h.trees_left ∙ drop-drop (length after) p.byte trees₀;
+            back ∙ sym (drop-drop (length after) byte trees) ∙ ap (drop (length after)) h.trees_left ∙ drop-drop (length after) byte trees₀;
         as_long = same ∙ h.as_long;
-        as_many = length-set answers p.call a ∙ h.as_many;
+        as_many = length-set answers call a ∙ h.as_many;
       }
 
-      go : part trees₀ c (length (take p.byte trees)) ≡ next_part c p trees → take (p.call + 1) cs ≡ take p.call cs ++ c ∷ []
-          → take (p.call + 1) (set answers p.call a) ≡ take p.call answers ++ a ∷ [] → (o : Option law.Answer) → answer_of a ≡ o
-          → Came kind slots h.tally (call_of charts c (next_part c p trees)) (next_part c p trees) o after s'
-          → StateAt (on p after) (set answers p.call a) trees' s'
+      go : part trees₀ c (length (take byte trees)) ≡ next_part c byte trees → take (call + 1) cs ≡ take call cs ++ c ∷ []
+          → take (call + 1) (set answers call a) ≡ take call answers ++ a ∷ [] → (o : Option law.Answer) → answer_of a ≡ o
+          → Came kind slots h.tally (call_of charts c (next_part c byte trees)) (next_part c byte trees) o after s'
+          → StateAt (call + 1) (byte + length after) (set answers call a) trees' s'
       go same_part same_calls same_answers (some x) e (k, called, takes, defined, rep) =
           left _ _
           (done after refl same_calls same_answers _ _
           (taken c a h.replayed (ap (call_of charts c) same_part ∙ called) e takes defined)) rep
       go same_part same_calls same_answers none e (not_taken, unchanged, rep) =
           left _ _
-          (done (part trees₀ c (length (take p.byte trees))) (unchanged ∙ sym same_part) same_calls same_answers _ _
+          (done (part trees₀ c (length (take byte trees))) (unchanged ∙ sym same_part) same_calls same_answers _ _
           (passed_over c a h.replayed e (λ k called. not_taken k (sym (ap (call_of charts c) same_part) ∙ called)))) rep
 
   -- the end of the bytes that a call is handed
-  end_is : (c : Call) (p : Place) (trees : List ℕ) (end : ℕ) → end ≡ p.byte + min (room_of c) (length trees - p.byte)
-      → p.byte + length (next_part c p trees) ≡ end
-  end_is c p trees end e = omega (arith, e, length-take (room_of c) (drop p.byte trees), length-drop p.byte trees)
+  end_is : (c : Call) (byte : ℕ) (trees : List ℕ) (end : ℕ) → end ≡ byte + min (room_of c) (length trees - byte)
+      → byte + length (next_part c byte trees) ≡ end
+  end_is c byte trees end e = omega (arith, e, length-take (room_of c) (drop byte trees), length-drop byte trees)
 
-  -- a draft, which leaves the trees as they are
-  pub draft_one : (p : Place) (answers : List Answer) (trees : List ℕ) (s s' : State K) (c : Call) (a : Answer) (end : ℕ)
-      → StateAt p answers trees s → p.call < length cs → p.call < length answers → p.byte ≤ length trees → ((d : Call) → get_or cs p.call d ≡ c)
-      → ((bytes : List ℕ) → CarriesOut kind charts c bytes s a bytes s') → (size : ℕ) → length trees ≡ size
-      → end ≡ p.byte + min (room_of c) (size - p.byte) → StateAt (record { call = p.call + 1; byte = end }) (set answers p.call a) trees s'
-  draft_one p answers trees s s' c a end h in_calls in_answers in_trees is carries size size_is end_so =
-      let e : end ≡ p.byte + min (room_of c) (length trees - p.byte) =
-      end_so ∙ ap (λ (n : ℕ). p.byte + min (room_of c) (n - p.byte)) (sym size_is) in
-      let bytes = next_part c p trees in
-      subst (λ (k : ℕ). StateAt (record { call = p.call + 1; byte = k }) (set answers p.call a) trees s') (end_is c p trees end e)
-      (replay_one p answers trees trees s s' c a bytes h in_calls in_answers in_trees is (carries bytes) refl
-      (take-add p.byte (length bytes) trees ∙ ap (λ (l : List ℕ). take p.byte trees ++ l) (take_of_take (room_of c) (drop p.byte trees))) refl refl)
-
-  -- a sealed book, which is handed its part of the trees
-  pub sealed_one : (p : Place) (answers : List Answer) (trees : List ℕ) (s s' : State K) (c : Call) (a : Answer) (end : ℕ) (after : List ℕ)
-      → StateAt p answers trees s → p.call < length cs → p.call < length answers → p.byte ≤ length trees → ((d : Call) → get_or cs p.call d ≡ c)
-      → end ≡ p.byte + min (room_of c) (length trees - p.byte)
-      → CarriesOut kind charts c (take (end - p.byte) (drop p.byte trees)) s a after s'
-      → length after ≡ length (take (end - p.byte) (drop p.byte trees))
-      → StateAt (record { call = p.call + 1; byte = end }) (set answers p.call a) (put_mid p.byte (end - p.byte) trees after) s'
-  sealed_one p answers trees s s' c a end after h in_calls in_answers in_trees is e carries same_length =
-      let bytes = next_part c p trees in
-      let here = end_is c p trees end e in
-      let all : take (end - p.byte) (drop p.byte trees) ≡ bytes =
-      ap (λ (k : ℕ). take k (drop p.byte trees)) (omega (arith, here)) ∙ take_of_take (room_of c) (drop p.byte trees) in
+  -- a call, which is handed its part of the trees
+  pub one_more : (call byte : ℕ) (answers : List Answer) (trees : List ℕ) (s s' : State K) (c : Call) (a : Answer) (end : ℕ) (after : List ℕ)
+      → StateAt call byte answers trees s → call < length cs → call < length answers → byte ≤ length trees → ((d : Call) → get_or cs call d ≡ c)
+      → end ≡ byte + min (room_of c) (length trees - byte)
+      → CarriesOut kind charts c (take (end - byte) (drop byte trees)) s a after s'
+      → length after ≡ length (take (end - byte) (drop byte trees))
+      → StateAt (call + 1) end (set answers call a) (put_mid byte (end - byte) trees after) s'
+  one_more call byte answers trees s s' c a end after h in_calls in_answers in_trees is e carries same_length =
+      let bytes = next_part c byte trees in
+      let here = end_is c byte trees end e in
+      let all : take (end - byte) (drop byte trees) ≡ bytes =
+      ap (λ (k : ℕ). take k (drop byte trees)) (omega (arith, here)) ∙ take_of_take (room_of c) (drop byte trees) in
       let long : length after ≡ length bytes = same_length ∙ ap length all in
-      let k = end - p.byte in
+      let k = end - byte in
       let k_is : k ≡ length after = omega (arith, here, long) in
-      let long_enough : p.byte + k ≤ length trees = omega (arith, e, in_trees) in
-      subst (λ (n : ℕ). StateAt (record { call = p.call + 1; byte = n }) (set answers p.call a) (put_mid p.byte k trees after) s') (omega (arith, here, long))
-      (replay_one p answers trees (put_mid p.byte k trees after) s s' c a after h in_calls in_answers in_trees is
+      let long_enough : byte + k ≤ length trees = omega (arith, e, in_trees) in
+      subst (λ (n : ℕ). StateAt (call + 1) n (set answers call a) (put_mid byte k trees after) s') (omega (arith, here, long))
+      (replay_one call byte answers trees (put_mid byte k trees after) s s' c a after h in_calls in_answers in_trees is
       (subst (λ (l : List ℕ). CarriesOut kind charts c l s a after s') all carries) long
-      (take-put_mid p.byte k trees after (p.byte + length after) refl in_trees)
-      (drop-put_mid p.byte k trees after (p.byte + length after) (omega (arith, k_is)) in_trees (sym k_is))
-      (length_putMid p.byte k trees after in_trees long_enough k_is))
+      (take-put_mid byte k trees after (byte + length after) refl in_trees)
+      (drop-put_mid byte k trees after (byte + length after) (omega (arith, k_is)) in_trees (sym k_is))
+      (length_putMid byte k trees after in_trees long_enough k_is))
 
-  -- seal or reopen, by which the state turns
-  pub turn_one : (p : Place) (answers : List Answer) (trees : List ℕ) (s s' : State K) (c : Call) (k : law.Call) → room_of c ≡ 0
-      → ((bytes : List ℕ) → call_of charts c bytes ≡ some k) → StateAt p answers trees s → p.call < length cs → p.call < length answers
-      → p.byte ≤ length trees → ((d : Call) → get_or cs p.call d ≡ c) → Does kind k s law.done [] s'
-      → StateAt (record { call = p.call + 1; byte = p.byte }) (set answers p.call Done) trees s'
-  turn_one p answers trees s s' c k none_due called h in_calls in_answers in_trees is does =
-      draft_one p answers trees s s' c Done p.byte h in_calls in_answers in_trees is
-      (λ bytes. carries_none kind charts c c refl none_due k called bytes s s' law.done does Done refl) (length trees) refl
-      (omega (arith, none_due))
+  -- the state turns, and has carried out the call by which it does
+  pub turned : (c : Call) (bytes : List ℕ) (s s' : State K) → c ≡ turning s → Turns kind s s' → CarriesOut kind charts c bytes s Done bytes s'
+  turned c bytes (Open d) s' is turns =
+      carries_none kind charts c Seal is refl law.seal (λ b. refl) bytes (Open d) s' law.done turns Done refl
+  turned c bytes (Shut d) s' is turns =
+      carries_none kind charts c Reopen is refl law.reopen (λ b. refl) bytes (Shut d) s' law.done turns Done refl
+
+  -- the state carries the call out, or it turns
+  pub goes_on : (c : Call) (bytes after : List ℕ) (s s₁ s' : State K) (o : Maybe Answer) (a : Answer) → Carries kind charts c bytes s o after s₁
+      → ((o ≡ Some a) × (s' ≡ s₁)) ⊎ ((o ≡ None) × (a ≡ Done) × Turns kind s₁ s') → CarriesOut kind charts c bytes s a after s'
+  goes_on c bytes after s s₁ s' o a carries (inl (is, same)) =
+      subst (λ (x : State K). CarriesOut kind charts c bytes s a after x) (sym same)
+      (subst (λ (x : Maybe Answer). Carries kind charts c bytes s x after s₁) is carries)
+  goes_on c bytes after s s₁ s' o a carries (inr (is, done, turns)) =
+      let (c_is, s_is, after_is) = subst (λ (x : Maybe Answer). Carries kind charts c bytes s x after s₁) is carries in
+      subst (λ (l : List ℕ). CarriesOut kind charts c bytes s a l s') (sym after_is)
+      (subst (λ (x : Answer). CarriesOut kind charts c bytes s x bytes s') (sym done)
+      (turned c bytes s s' c_is (subst (λ (x : State K). Turns kind x s') s_is turns)))
 
   -- nothing is replayed yet
   pub start : (s : State K) → Represents kind slots at_start s
-      → StateAt (record { call = 0; byte = 0 }) answers₀ trees₀ s
+      → StateAt 0 0 answers₀ trees₀ s
   start s h = record {
     events = [];
     tally = at_start;
@@ -209,17 +203,17 @@ module _ {K : Type 0} (kind : Kind K) (charts : List Chart) (slots : ℕ) (trees
 
   -- ---- the end
 
-  pub replays : (p : Place) (answers : List Answer) (trees : List ℕ) (s : State K) → StateAt p answers trees s
-      → p.call ≡ min (length cs) (length answers₀) → p.byte ≤ length trees → Replays kind charts slots trees₀ cs answers₀ answers trees
-  replays p answers trees s h e in_trees = record {
-    handed_out = take p.byte trees;
+  pub replays : (call byte : ℕ) (answers : List Answer) (trees : List ℕ) (s : State K) → StateAt call byte answers trees s
+      → call ≡ min (length cs) (length answers₀) → byte ≤ length trees → Replays kind charts slots trees₀ cs answers₀ answers trees
+  replays call byte answers trees s h e in_trees = record {
+    handed_out = take byte trees;
     events = h.events;
     tally = h.tally;
-    replayed = subst (λ (n : ℕ). Replayed kind charts slots trees₀ (take n cs) (take n answers) (take p.byte trees) h.events h.tally) e h.replayed;
+    replayed = subst (λ (n : ℕ). Replayed kind charts slots trees₀ (take n cs) (take n answers) (take byte trees) h.events h.tally) e h.replayed;
     is_run = (replayed_run kind charts slots trees₀ h.replayed).0;
     others = subst (λ (n : ℕ). drop n answers ≡ drop n answers₀) e h.answers_left;
     trees_are =
-        sym (take-append-drop p.byte trees)
-        ∙ ap (λ (l : List ℕ). take p.byte trees ++ l)
-        (h.trees_left ∙ ap (λ (n : ℕ). drop n trees₀) (sym (length-take p.byte trees ∙ omega arith)));
+        sym (take-append-drop byte trees)
+        ∙ ap (λ (l : List ℕ). take byte trees ++ l)
+        (h.trees_left ∙ ap (λ (n : ℕ). drop n trees₀) (sym (length-take byte trees ∙ omega arith)));
   }

@@ -1,30 +1,32 @@
 -- What suppose, withdraw and reopen do.
-use Rattle.std.proofs.Common.{◌≡◌, ℕ, ◌<◌, ◌≤◌, Bool, true, false, ltb, List, [], ◌∷◌, ◌++◌, map, length, Ok, Err, sym, refl, ap, ◌∙◌, subst, ap₂, arith, ltb→lt}
-use mathlib.Core.Option.{Option}
-use Rattle.std.proofs.lemmas.List.{append-nil, length-map, length_push, map_push, nil_from_length, same_from_push}
+use Rattle.std.proofs.Common.{◌≡◌, ℕ, ◌<◌, ◌≤◌, Bool, true, false, ltb, List, [], ◌∷◌, ◌++◌, map, length, slice_get, Some, None, Option as Maybe, option_to_list, ok_or, IsSome, ◌↔◌, Ok, Err, Result, sym, refl, ap, ◌∙◌, subst, ap₂, arith}
+use Rattle.std.proofs.lemmas.Bool.{lt-ltb, le-ltb}
+use mathlib.Core.Option.{Option, some}
+use Rattle.std.proofs.lemmas.List.{append-nil, length-map, length_push, map_push, same_from_push}
+use Rattle.arrayvec.specs.ArrayVec.{ArrayVec}
 use Rattle.logic.specs.Store.{stores}
-use Rattle.keys.specs.declared.register.Register.{Register}
 use Rattle.reader.specs.Written.{Refusal, Kind}
 use Rattle.book.specs.Books.{PutInForce, records_of, names_of, needed}
 use Rattle.book.specs.declared.book.Book.{Book}
 use Rattle.book.specs.declared.book.Mark.{Mark}
+use Rattle.book.specs.declared.fault.BookFault.{BookFault}
+use Rattle.book.specs.declared.fault.BookFault.TheVariants.{NoneStanding}
 use Rattle.book.specs.declared.number.RecordNumber.{RecordNumber}
 use Rattle.law.specs.Limits.{most_suppositions}
 use Rattle.law.specs.Standing.{Standing, nothing, enter_all, stood}
 use Rattle.law.specs.Calls.{suppose, withdraw, reopen, done, refused, Tally, taken}
 use Rattle.law.specs.Defined.{standing, unless, or_else, entering, refusal_of}
 use Rattle.law.specs.Kept.{Grows}
-use Rattle.law.proofs.Refusals.{lt_passes, none_or, passed_unless}
+use Rattle.law.proofs.Refusals.{none_or, passed_unless}
 use Rattle.law.proofs.Kept.{standing_kept, all_append, stood_push, stood_length}
 use Rattle.service.specs.Contents.{held, Holds, TakesIn, GivenBack}
 use Rattle.service.specs.Faults as faults
-use Rattle.service.specs.Marks.{marks_in}
 use Rattle.service.specs.Represents.{mark_of, unsupposed, SealedHolds, Does}
 use Rattle.service.specs.declared.fault.Fault.{Fault}
-use Rattle.service.specs.declared.marks.Marks.{Marks}
+use Rattle.service.specs.declared.fault.Fault.TheVariants as fault
+use Rattle.service.specs.declared.state.Draft.{Draft}
 use Rattle.service.specs.declared.state.Sealed.{Sealed}
 use Rattle.service.specs.declared.state.State.TheVariants.{Open, Shut}
-use Rattle.service.proofs.Failing.{fails}
 use Rattle.service.proofs.Holding.{First, cut_back, needed_standing}
 use Rattle.service.proofs.Doing.{answered, turned_down, entered_in, refused_in}
 
@@ -55,7 +57,7 @@ first_held s s' grows named = record { keys = grows.keys; records = grows.record
 
 module _ {K : Type 0} (kind : Kind K) (slots : ℕ) where
   -- there is a mark for each supposition
-  marked_length : (t : Tally) (s : Sealed K) → SealedHolds kind slots t s → length (marks_in s.marks) ≡ length t.supposed
+  marked_length : (t : Tally) (s : Sealed K) → SealedHolds kind slots t s → length (s.marks.items) ≡ length t.supposed
   marked_length t s h =
       ap length h.marked ∙ length-map (stood kind slots (unsupposed kind slots t) t.supposed) mark_of
       ∙ stood_length kind slots (unsupposed kind slots t) t.supposed
@@ -66,20 +68,20 @@ module _ {K : Type 0} (kind : Kind K) (slots : ℕ) where
 
 -- ---- suppose
 
-module _ {K : Type 0} (kind : Kind K) (w : List ℕ) (g g' : Register K) (b b' : Book) (ms : Marks) where
-  pub does_suppose : (n : RecordNumber) (b'' : Book) (m : Mark) (ms' : Marks) → length (marks_in ms) < most_suppositions
-      → m.records ≡ length (records_of b) → m.names ≡ names_of b
-      → TakesIn kind w (Ok n) g b g' b' → PutInForce b' n.index b'' → marks_in ms' ≡ marks_in ms ++ m ∷ []
-      → Does kind (suppose w) (Shut (record { register = g; book = b; marks = ms })) done [] (Shut (record { register = g'; book = b''; marks = ms' }))
+module _ {K : Type 0} (kind : Kind K) (w : List ℕ) (d d' : Draft K) (ms : ArrayVec Mark) where
+  pub does_suppose : (n : RecordNumber) (b'' : Book) (m : Mark) (ms' : ArrayVec Mark) → length (ms.items) < most_suppositions
+      → m.records ≡ length (records_of d.book) → m.names ≡ names_of d.book
+      → TakesIn kind w (Ok n) d d' → PutInForce d'.book n.index b'' → ms'.items ≡ ms.items ++ m ∷ []
+      → Does kind (suppose w) (Shut (record { draft = d; marks = ms })) done [] (Shut (record { draft = record { register = d'.register; book = b'' }; marks = ms' }))
   does_suppose n b'' m ms' few records names takes_in put more slots t h =
       let s = standing kind slots t in
       let u = unsupposed kind slots t in
-      let x = entered_in kind w g g' b b' slots s n (takes_in slots s h.holds) in
-      let count = marked_length kind slots t (record { register = g; book = b; marks = ms }) h in
+      let x = entered_in kind w d d' slots s n (takes_in slots s h.holds) in
+      let count = marked_length kind slots t (record { draft = d; marks = ms }) h in
       let is_mark : m ≡ mark_of s =
       same_mark m (mark_of s) (records ∙ ap length h.holds.book_is.records) (names ∙ h.holds.book_is.names) in
-      answered kind slots t (suppose w) done [] (Shut (record { register = g'; book = b''; marks = ms' })) h.shut
-      (none_or (passed_unless 30 (lt_passes (length t.supposed) most_suppositions (omega (arith, count, few)))) (ap refusal_of x.is))
+      answered kind slots t (suppose w) done [] (Shut (record { draft = record { register = d'.register; book = b'' }; marks = ms' })) h.shut
+      (none_or (passed_unless 30 (lt-ltb (length t.supposed) most_suppositions (omega (arith, count, few)))) (ap refusal_of x.is))
       (refl, refl)
       record {
         shut = h.shut;
@@ -87,75 +89,88 @@ module _ {K : Type 0} (kind : Kind K) (w : List ℕ) (g g' : Register K) (b b' :
             more ∙ ap₂ (λ (l : List Mark) (k : Mark). l ++ k ∷ []) h.marked (is_mark ∙ ap mark_of (standing_is kind slots t))
             ∙ sym (map_push mark_of (stood kind slots u t.supposed) (enter_all kind slots u t.supposed))
             ∙ ap (map mark_of) (sym (stood_push kind slots u t.supposed w));
-        holds = subst (λ (s' : Standing K). Holds slots (held s') g' b'') (sym ((standing_kept K kind slots).supposed t w)) (x.holds b'' put);
+        holds = subst (λ (s' : Standing K). Holds slots (held s') (record { register = d'.register; book = b'' })) (sym ((standing_kept K kind slots).supposed t w)) (x.holds b'' put);
       }
 
-  pub does_suppose_refused : (e : Fault) → length (marks_in ms) < most_suppositions → TakesIn kind w (Err e) g b g' b'
-      → Does kind (suppose w) (Shut (record { register = g; book = b; marks = ms })) (refused (faults.refusal e)) []
-      (Shut (record { register = g'; book = b'; marks = ms }))
+  pub does_suppose_refused : (e : Fault) → length (ms.items) < most_suppositions → TakesIn kind w (Err e) d d'
+      → Does kind (suppose w) (Shut (record { draft = d; marks = ms })) (refused (faults.refusal e)) []
+      (Shut (record { draft = d'; marks = ms }))
   does_suppose_refused e few takes_in slots t h =
       let s = standing kind slots t in
-      let x = refused_in kind w g g' b b' slots s e (takes_in slots s h.holds) in
-      let count = marked_length kind slots t (record { register = g; book = b; marks = ms }) h in
-      turned_down kind slots t (suppose w) (faults.refusal e) (Shut (record { register = g'; book = b'; marks = ms })) h.shut
+      let x = refused_in kind w d d' slots s e (takes_in slots s h.holds) in
+      let count = marked_length kind slots t (record { draft = d; marks = ms }) h in
+      turned_down kind slots t (suppose w) (faults.refusal e) (Shut (record { draft = d'; marks = ms })) h.shut
       (ap (λ (f : Option Refusal). or_else f (entering kind slots t w))
-      (passed_unless 30 (lt_passes (length t.supposed) most_suppositions (omega (arith, count, few)))) ∙ ap refusal_of x.is)
+      (passed_unless 30 (lt-ltb (length t.supposed) most_suppositions (omega (arith, count, few)))) ∙ ap refusal_of x.is)
       record { shut = h.shut; marked = h.marked; holds = x.holds }
 
 module _ {K : Type 0} (kind : Kind K) (s : Sealed K) where
-  pub does_suppose_full : (w : List ℕ) → (length (marks_in s.marks) < most_suppositions → ⊥)
+  pub does_suppose_full : (w : List ℕ) → (length (s.marks.items) < most_suppositions → ⊥)
       → Does kind (suppose w) (Shut s) (refused (record { number = 30; place = 0 })) [] (Shut s)
   does_suppose_full w full slots t h =
       let count = marked_length kind slots t s h in
-      let test = ltb (length t.supposed) most_suppositions in
-      let over : test ≡ false =
-      fails test (λ x. full (omega (arith, count, ltb→lt (length t.supposed) most_suppositions x))) in
+      let over : ltb (length t.supposed) most_suppositions ≡ false =
+      le-ltb (length t.supposed) most_suppositions (omega (arith, count, full)) in
       turned_down kind slots t (suppose w) (record { number = 30; place = 0 }) (Shut s) h.shut
       (ap (λ (x : Bool). or_else (unless x 30) (entering kind slots t w)) over) h
 
 -- ---- withdraw
 
-module _ {K : Type 0} (kind : Kind K) (g : Register K) (b : Book) (ms : Marks) where
-  pub does_withdraw_none : (ms' : Marks) → marks_in ms ≡ [] → marks_in ms' ≡ []
-      → Does kind withdraw (Shut (record { register = g; book = b; marks = ms })) (refused (record { number = 31; place = 0 })) []
-      (Shut (record { register = g; book = b; marks = ms' }))
-  does_withdraw_none ms' none_set none_set' slots t h =
-      let count = marked_length kind slots t (record { register = g; book = b; marks = ms }) h in
-      let none_supposed : length t.supposed ≡ 0 = sym count ∙ ap length none_set in
-      turned_down kind slots t withdraw (record { number = 31; place = 0 }) (Shut (record { register = g; book = b; marks = ms' })) h.shut
-      (ap (λ (k : ℕ). unless (ltb 0 k) 31) none_supposed)
-      record { shut = h.shut; marked = none_set' ∙ sym none_set ∙ h.marked; holds = h.holds }
+-- the fault, where there is one
+abbrev fault_of : {X : Type 0} → Result X BookFault → BookFault
+fault_of (Ok x) = NoneStanding
+fault_of (Err f) = f
 
-module _ {K : Type 0} (kind : Kind K) (reflexive : (k : K) → kind.same k k ≡ true) (g g' : Register K) (b b' : Book) (ms : Marks) (m : Mark) where
+-- a list that would leave a last mark, were it not empty
+none_marked : (xs : List Mark) → (0 < length xs → IsSome {T = Mark} None) → length xs ≡ 0
+none_marked [] e = refl
+none_marked (x ∷ xs) e = let false_is_true = e (omega arith) in cc
+
+module _ {K : Type 0} (kind : Kind K) (d : Draft K) (ms : ArrayVec Mark) where
+  pub does_withdraw_none : (ms' : ArrayVec Mark) (o : Maybe Mark) (f : BookFault) → ms.items ≡ ms'.items ++ option_to_list o
+      → (IsSome o ↔ (0 < length ms.items)) → o ≡ None → Err f ≡ ok_or o NoneStanding
+      → Does kind withdraw (Shut (record { draft = d; marks = ms })) (refused (faults.refusal (fault.Book f))) []
+      (Shut (record { draft = d; marks = ms' }))
+  does_withdraw_none ms' o f parts some_left none_left is slots t h =
+      let count = marked_length kind slots t (record { draft = d; marks = ms }) h in
+      let none_set : ms.items ≡ ms'.items = parts ∙ ap (λ (x : Maybe Mark). ms'.items ++ option_to_list x) none_left ∙ append-nil ms'.items in
+      let none_supposed : length t.supposed ≡ 0 = sym count ∙ none_marked ms.items (λ l. subst IsSome none_left (some_left.1 l)) in
+      turned_down kind slots t withdraw (faults.refusal (fault.Book f)) (Shut (record { draft = d; marks = ms' })) h.shut
+      (ap (λ (k : ℕ). unless (ltb 0 k) 31) none_supposed
+      ∙ ap (λ (x : BookFault). some (faults.refusal (fault.Book x))) (sym (ap fault_of (is ∙ ap (λ (x : Maybe Mark). ok_or x NoneStanding) none_left))))
+      record { shut = h.shut; marked = sym none_set ∙ h.marked; holds = h.holds }
+
+module _ {K : Type 0} (kind : Kind K) (reflexive : (k : K) → kind.same k k ≡ true) (d d' : Draft K) (ms : ArrayVec Mark) (m : Mark) where
   -- cutting back to the mark of what stood at a tally
   back_to : (slots : ℕ) (t t₀ : Tally) → Grows (standing kind slots t₀) (standing kind slots t) → m ≡ mark_of (standing kind slots t₀)
-      → Holds slots (held (standing kind slots t)) g b → GivenBack g b m g' b' → Holds slots (held (standing kind slots t₀)) g' b'
+      → Holds slots (held (standing kind slots t)) d → GivenBack d m d' → Holds slots (held (standing kind slots t₀)) d'
   back_to slots t t₀ grows is h back =
       let s₀ = standing kind slots t₀ in
-      cut_back g g' b b' slots (held s₀) (held (standing kind slots t))
+      cut_back d d' slots (held s₀) (held (standing kind slots t))
       (first_held s₀ (standing kind slots t) grows (needed_standing (length s₀.keys) s₀.rules ((standing_kept K kind slots).headed reflexive t₀)))
-      h (subst (λ (k : Mark). GivenBack g b k g' b') is back)
+      h (subst (λ (k : Mark). GivenBack d k d') is back)
 
-  pub does_withdraw : (ms' : Marks) → marks_in ms ≡ marks_in ms' ++ m ∷ [] → GivenBack g b m g' b'
-      → Does kind withdraw (Shut (record { register = g; book = b; marks = ms })) done [] (Shut (record { register = g'; book = b'; marks = ms' }))
-  does_withdraw ms' fewer back slots t h =
-      let count = marked_length kind slots t (record { register = g; book = b; marks = ms }) h in
-      let some' : 0 < length t.supposed = omega (arith, count, ap length fewer, length_push (marks_in ms') m) in
+  pub does_withdraw : (ms' : ArrayVec Mark) (o : Maybe Mark) → ms.items ≡ ms'.items ++ option_to_list o → o ≡ Some m → GivenBack d m d'
+      → Does kind withdraw (Shut (record { draft = d; marks = ms })) done [] (Shut (record { draft = d'; marks = ms' }))
+  does_withdraw ms' o parts is back slots t h =
+      let fewer : ms.items ≡ ms'.items ++ m ∷ [] = parts ∙ ap (λ (x : Maybe Mark). ms'.items ++ option_to_list x) is in
+      let count = marked_length kind slots t (record { draft = d; marks = ms }) h in
+      let some' : 0 < length t.supposed = omega (arith, count, ap length fewer, length_push (ms'.items) m) in
       let l = has_last t.supposed some' in
       let u = unsupposed kind slots t in
       let t₀ : Tally = record { added = t.added; supposed = l.front; sealed = t.sealed } in
       let before : taken t withdraw ≡ t₀ =
       ap (λ (ws : List (List ℕ)). taken (record { added = t.added; supposed = ws; sealed = t.sealed }) withdraw) l.split
       ∙ (standing_kept K kind slots).withdrawn t₀ l.last in
-      let marks : marks_in ms' ++ m ∷ [] ≡ map mark_of (stood kind slots u l.front) ++ mark_of (enter_all kind slots u l.front) ∷ [] =
+      let marks : ms'.items ++ m ∷ [] ≡ map mark_of (stood kind slots u l.front) ++ mark_of (enter_all kind slots u l.front) ∷ [] =
       sym fewer ∙ h.marked ∙ ap (λ (ws : List (List ℕ)). map mark_of (stood kind slots u ws)) l.split
       ∙ ap (map mark_of) (stood_push kind slots u l.front l.last)
       ∙ map_push mark_of (stood kind slots u l.front) (enter_all kind slots u l.front) in
-      let parts = same_from_push (marks_in ms') (map mark_of (stood kind slots u l.front)) m (mark_of (enter_all kind slots u l.front)) marks in
+      let parts = same_from_push (ms'.items) (map mark_of (stood kind slots u l.front)) m (mark_of (enter_all kind slots u l.front)) marks in
       let grows = subst (λ (v : Tally). Grows (standing kind slots v) (standing kind slots t)) before ((standing_kept K kind slots).withdraw_front t) in
-      answered kind slots t withdraw done [] (Shut (record { register = g'; book = b'; marks = ms' })) h.shut
-      (passed_unless 31 (lt_passes 0 (length t.supposed) some')) (refl, refl)
-      (subst (λ (v : Tally). SealedHolds kind slots v (record { register = g'; book = b'; marks = ms' })) (sym before)
+      answered kind slots t withdraw done [] (Shut (record { draft = d'; marks = ms' })) h.shut
+      (passed_unless 31 (lt-ltb 0 (length t.supposed) some')) (refl, refl)
+      (subst (λ (v : Tally). SealedHolds kind slots v (record { draft = d'; marks = ms' })) (sym before)
       record {
         shut = h.shut;
         marked = parts.0;
@@ -164,38 +179,40 @@ module _ {K : Type 0} (kind : Kind K) (reflexive : (k : K) → kind.same k k ≡
 
   -- ---- reopen
 
-  pub does_reopen : (others : List Mark) → marks_in ms ≡ m ∷ others → GivenBack g b m g' b'
-      → Does kind reopen (Shut (record { register = g; book = b; marks = ms })) done [] (Open (record { register = g'; book = b' }))
-  does_reopen others first back slots t h =
+  pub does_reopen : slice_get ms.items 0 ≡ Some m → GivenBack d m d'
+      → Does kind reopen (Shut (record { draft = d; marks = ms })) done [] (Open d')
+  does_reopen first back slots t h =
       let u = unsupposed kind slots t in
       let bare : standing kind slots (taken t reopen) ≡ u = ap (enter_all kind slots nothing) (append-nil t.added) in
-      answered kind slots t reopen done [] (Open (record { register = g'; book = b' })) h.shut refl (refl, refl)
+      answered kind slots t reopen done [] (Open d') h.shut refl (refl, refl)
       record {
         unsealed = refl;
         bare = refl;
         holds =
             back_to slots t (taken t reopen) ((standing_kept K kind slots).reopen_front t)
-            (first_mark u t.supposed (sym first ∙ h.marked) ∙ ap mark_of (sym bare)) h.holds back;
+            (first_mark u t.supposed (sym first ∙ ap (λ (l : List Mark). slice_get l 0) h.marked) ∙ ap mark_of (sym bare)) h.holds back;
       }
     where
-      first_or : List Mark → Mark
-      first_or [] = m
-      first_or (k ∷ ks) = k
+      mark_or : Maybe Mark → Mark
+      mark_or None = m
+      mark_or (Some k) = k
 
-      first_mark : (u : Standing K) (ws : List (List ℕ)) → m ∷ others ≡ map mark_of (stood kind slots u ws) → m ≡ mark_of u
-      first_mark u [] e = absurd (omega (arith, ap length e))
-      first_mark u (v ∷ ws) e = ap first_or e
+      first_mark : (u : Standing K) (ws : List (List ℕ)) → Some m ≡ slice_get (map mark_of (stood kind slots u ws)) 0 → m ≡ mark_of u
+      first_mark u [] e = cc
+      first_mark u (v ∷ ws) e = ap mark_or e
 
-module _ {K : Type 0} (kind : Kind K) (g : Register K) (b : Book) (ms : Marks) where
-  pub does_reopen_bare : marks_in ms ≡ []
-      → Does kind reopen (Shut (record { register = g; book = b; marks = ms })) done [] (Open (record { register = g; book = b }))
+module _ {K : Type 0} (kind : Kind K) (d : Draft K) (ms : ArrayVec Mark) where
+  pub does_reopen_bare : slice_get ms.items 0 ≡ None → Does kind reopen (Shut (record { draft = d; marks = ms })) done [] (Open d)
   does_reopen_bare none_set slots t h =
-      let count = marked_length kind slots t (record { register = g; book = b; marks = ms }) h in
-      let none_supposed : t.supposed ≡ [] = nil_from_length t.supposed (sym count ∙ ap length none_set) in
-      answered kind slots t reopen done [] (Open (record { register = g; book = b })) h.shut refl (refl, refl)
+      let none_supposed : t.supposed ≡ [] = none_supposed_from t.supposed (unsupposed kind slots t) (sym none_set ∙ ap (λ (l : List Mark). slice_get l 0) h.marked) in
+      answered kind slots t reopen done [] (Open d) h.shut refl (refl, refl)
       record {
         unsealed = refl;
         bare = refl;
         holds =
-            subst (λ (ws : List (List ℕ)). Holds slots (held (enter_all kind slots nothing (t.added ++ ws))) g b) none_supposed h.holds;
+            subst (λ (ws : List (List ℕ)). Holds slots (held (enter_all kind slots nothing (t.added ++ ws))) d) none_supposed h.holds;
       }
+    where
+      none_supposed_from : (ws : List (List ℕ)) (u : Standing K) → None ≡ slice_get (map mark_of (stood kind slots u ws)) 0 → ws ≡ []
+      none_supposed_from [] u e = refl
+      none_supposed_from (w ∷ ws) u e = cc

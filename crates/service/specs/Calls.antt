@@ -1,5 +1,6 @@
 -- Calls and answers of the code as those that the law speaks of.
-use Rattle.std.specs.Prelude.{ℕ, zero, suc, List, [], ◌∷◌}
+use Rattle.std.specs.Prelude.{ℕ, zero, suc, List, [], ◌∷◌, Some, None, Option as Maybe}
+use Rattle.std.specs.Borrow.{Bor}
 use Rattle.std.proofs.Math.Option.{Option, none, some}
 use Rattle.logic.specs.Charts.{Chart}
 use Rattle.prover.specs.Settings.{allowed}
@@ -26,6 +27,11 @@ abbrev pub chart_at : List Chart → ℕ → Option Chart
 chart_at [] n = none
 chart_at (c ∷ cs) zero = some c
 chart_at (c ∷ cs) (suc n) = chart_at cs n
+
+-- the value of a chart, where there is one
+abbrev pub chart_of : {C : Type 0} → (C → Chart) → Maybe (Bor C) → Option Chart
+chart_of value None = none
+chart_of value (Some c) = some (value c.now)
 
 -- a look at this chart, where there is one
 abbrev pub look_at : List ℕ → ℕ → Option Chart → Option law.Call

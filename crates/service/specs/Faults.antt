@@ -1,5 +1,5 @@
 -- The number, the place and the layer of each refusal.
-use Rattle.std.specs.Prelude.{ℕ, cond, nat_le}
+use Rattle.std.specs.Prelude.{ℕ, List, cond, nat_le, codes}
 use Rattle.reader.specs.Faults.{number_of}
 use Rattle.reader.specs.Written.{Refusal}
 use Rattle.book.specs.Faults as book
@@ -38,6 +38,14 @@ abbrev pub layer_of : ℕ → Layer
 layer_of n =
     cond (nat_le n 5) layer.Reader
     (cond (nat_le n 11) layer.Register (cond (nat_le n 31) layer.Book (cond (nat_le n 34) layer.Service (cond (nat_le n 44) layer.Chart layer.Console))))
+
+abbrev pub layer_name : Layer → List ℕ
+layer_name layer.Reader = codes "reader"
+layer_name layer.Register = codes "register"
+layer_name layer.Book = codes "book"
+layer_name layer.Service = codes "service"
+layer_name layer.Chart = codes "chart"
+layer_name layer.Console = codes "console"
 
 -- the refusal that a fault tells
 abbrev pub refusal : Fault → Refusal

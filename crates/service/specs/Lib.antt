@@ -1,8 +1,9 @@
 pub mod Faults
-pub mod Marks
 pub mod Contents
 pub mod Represents
+pub mod Goals
 pub mod Questions
+pub mod GoalQueries
 pub mod Looking
 pub mod Calls
 pub mod Replays

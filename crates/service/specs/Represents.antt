@@ -9,7 +9,6 @@ use Rattle.law.specs.Defined.{standing}
 use Rattle.law.specs.Does as law
 use Rattle.service.specs.Contents.{held, Holds}
 use Rattle.service.specs.Faults.{refusal}
-use Rattle.service.specs.Marks.{marks_in}
 use Rattle.service.specs.declared.fault.Fault.{Fault}
 use Rattle.service.specs.declared.state.Draft.{Draft}
 use Rattle.service.specs.declared.state.Sealed.{Sealed}
@@ -29,13 +28,13 @@ module _ {K : Type 0} (kind : Kind K) (slots : ℕ) where
   pub record DraftHolds (t : Tally) (d : Draft K) : Type 0 where
     pub unsealed : t.sealed ≡ false
     pub bare : t.supposed ≡ []
-    pub holds : Holds slots (held (standing kind slots t)) d.register d.book
+    pub holds : Holds slots (held (standing kind slots t)) d
 
   -- a sealed book holds what stands, and its marks are where it stood before each supposition
   pub record SealedHolds (t : Tally) (s : Sealed K) : Type 0 where
     pub shut : t.sealed ≡ true
-    pub marked : marks_in s.marks ≡ map mark_of (stood kind slots (unsupposed t) t.supposed)
-    pub holds : Holds slots (held (standing kind slots t)) s.register s.book
+    pub marked : s.marks.items ≡ map mark_of (stood kind slots (unsupposed t) t.supposed)
+    pub holds : Holds slots (held (standing kind slots t)) s.draft
 
   -- the book stands for the tally
   abbrev pub Represents : Tally → State K → Type 0

@@ -1,10 +1,11 @@
 //! Calls and their answers as values.
 ghost use Rattle.std.proofs.Math.Option.{some};
-ghost use Rattle.std.specs.Prelude.{◌≡◌};
+ghost use Rattle.std.specs.Prelude.{◌≡◌, Ok, MatchResult};
 ghost use Rattle.service.specs.Calls.{room_of, answer_of};
 ghost use Rattle.service.specs.Looking.{looked};
 ghost use Rattle.service.specs.Questions.{asked, checked};
 ghost use Rattle.service.specs.Represents.{told};
+ghost use Rattle.service.specs.declared.calls.Answer.TheVariants as answer;
 
 use crate::fault::Fault;
 use charts::Holding;
@@ -50,7 +51,8 @@ impl Call<'_> {
 }
 
 /// What a call answered, or that the state did not take it.
-#[derive(Clone, Copy)]
+// The cases of `Outcome`, `Verdict` and `Holding` stand flat, as a list of answers is read.
+#[derive(Clone, Copy, PartialEq, Debug)]
 pub enum Answer {
     Done,
     Refused(Fault),
@@ -64,48 +66,56 @@ pub enum Answer {
     NotTaken,
 }
 
-impl Answer {
-    /// The answer of a call that changes what is in force.
-    pub(crate) fn of_change(res: Result<(), Fault>) -> Answer
-        ensures { answer_of result ≡ some (told res) }
-    {
-        match res {
-            Ok(()) => Answer::Done,
-            Err(fault) => Answer::Refused(fault),
+/// A call that changes what is in force is done.
+impl From<()> for Answer {
+    ghost from_gives = { λ u a. answer_of a ≡ some (told (Ok u)) };
+
+    fn from(_done: ()) -> Answer {
+        Answer::Done
+    }
+}
+
+/// The answer of ask.
+impl From<Outcome> for Answer {
+    ghost from_gives = { λ o a. answer_of a ≡ some (asked (Ok o)) };
+
+    fn from(outcome: Outcome) -> Answer {
+        match outcome {
+            Outcome::Yes { count, len } => Answer::Yes { count, length: len },
+            Outcome::No { count } => Answer::No { count },
+            Outcome::Spent { count } => Answer::Spent { count },
+            Outcome::Long { count, len } => Answer::Long { count, length: len },
         }
     }
+}
 
-    /// The answer of ask.
-    pub(crate) fn of_search(res: Result<Outcome, Fault>) -> Answer
-        ensures { answer_of result ≡ some (asked res) }
-    {
-        match res {
-            Ok(Outcome::Yes { count, len }) => Answer::Yes { count, length: len },
-            Ok(Outcome::No { count }) => Answer::No { count },
-            Ok(Outcome::Spent { count }) => Answer::Spent { count },
-            Ok(Outcome::Long { count, len }) => Answer::Long { count, length: len },
-            Err(fault) => Answer::Refused(fault),
+/// The answer of check.
+impl From<Verdict> for Answer {
+    ghost from_gives = { λ v a. answer_of a ≡ some (checked (Ok v)) };
+
+    fn from(verdict: Verdict) -> Answer {
+        match verdict {
+            Verdict::Accepted => Answer::Accepted,
+            Verdict::Rejected { place } => Answer::Rejected { place },
         }
     }
+}
 
-    /// The answer of check.
-    pub(crate) fn of_verdict(res: Result<Verdict, Fault>) -> Answer
-        ensures { answer_of result ≡ some (checked res) }
-    {
-        match res {
-            Ok(Verdict::Accepted) => Answer::Accepted,
-            Ok(Verdict::Rejected { place }) => Answer::Rejected { place },
-            Err(fault) => Answer::Refused(fault),
-        }
+/// The answer of look.
+impl From<Holding> for Answer {
+    ghost from_gives = { λ h a. answer_of a ≡ some (looked (Ok h)) };
+
+    fn from(holding: Holding) -> Answer {
+        let Holding { rules, goal } = holding;
+        Answer::Told { rules, goal }
     }
+}
 
-    /// The answer of look.
-    pub(crate) fn of_look(res: Result<Holding, Fault>) -> Answer
-        ensures { answer_of result ≡ some (looked res) }
-    {
-        match res {
-            Ok(Holding { rules, goal }) => Answer::Told { rules, goal },
-            Err(fault) => Answer::Refused(fault),
-        }
+/// The answer of a call that may be refused.
+impl<T: Into<Answer>> From<Result<T, Fault>> for Answer {
+    ghost from_gives = { λ res a. MatchResult res (λ x. T.converts x a) (λ f. a ≡ answer.Refused f) };
+
+    fn from(res: Result<T, Fault>) -> Answer {
+        res.map_or_else(Answer::Refused, T::into)
     }
 }

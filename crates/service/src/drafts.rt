@@ -4,10 +4,9 @@ ghost use Rattle.law.specs.Calls.{at_start, add, seal as «sealing», done};
 ghost use Rattle.service.specs.Represents.{Represents, Does, told};
 ghost use Rattle.service.specs.declared.state.State.TheVariants.{Open, Shut};
 
-use crate::entry::take_in;
 use crate::fault::Fault;
-use crate::marks::Marks;
 use crate::state::{Draft, Sealed};
+use arrayvec::ArrayVec;
 use book::Book;
 use keys::{Key, Register};
 use reader::Written;
@@ -27,7 +26,7 @@ impl<'a, K: Key + Written + Copy> Draft<'a, K> {
     pub fn add(&mut self, rule: &[u8]) -> Result<(), Fault>
         ensures { Does (record { same = K.same; reading = K.reading }) (add rule.now) (Open self.old) (told result) [] (Open self.new) }
     {
-        let number = take_in(&mut self.register, &mut self.book, rule)?;
+        let number = self.take_in(rule)?;
         self.book.put_in_force(number);
         Ok(())
     }
@@ -36,11 +35,9 @@ impl<'a, K: Key + Written + Copy> Draft<'a, K> {
     pub fn seal(self) -> Sealed<'a, K>
         ensures { Does (record { same = K.same; reading = K.reading }) «sealing» (Open self.entry) done [] (Shut result) }
     {
-        let Draft { register, book } = self;
         Sealed {
-            register,
-            book,
-            marks: Marks::none(),
+            draft: self,
+            marks: ArrayVec::new(),
         }
     }
 }

@@ -1,14 +1,15 @@
 //! What a call turns down, with its number, its place and its layer.
-ghost use Rattle.std.specs.Prelude.{◌≡◌};
-ghost use Rattle.service.specs.Faults.{fault_number, fault_place, fault_layer, layer_of};
+ghost use Rattle.std.specs.Prelude.{◌≡◌, Some};
+ghost use Rattle.service.specs.Faults.{fault_number, fault_place, fault_layer, layer_of, layer_name};
 ghost use Rattle.service.specs.declared.fault.Fault.TheVariants as fault;
 
 use book::BookFault;
 use keys::RegisterFault;
 use reader::ReaderFault;
+use std::fmt;
 
 /// Why a call is refused. The fault of a lower layer lies in it whole.
-#[derive(Clone, Copy)]
+#[derive(Clone, Copy, PartialEq, Debug)]
 pub enum Fault {
     /// The rule or goal is not read.
     Reader(ReaderFault),
@@ -35,6 +36,22 @@ pub enum Layer {
     Console,
 }
 
+impl fmt::Display for Layer {
+    ghost output = { λ l. Some (layer_name l) };
+
+    fn fmt<W: fmt::Write>(&self, f: &mut fmt::Formatter<W>) -> fmt::Result {
+        f.write_str(match self {
+            Layer::Reader => "reader",
+            Layer::Register => "register",
+            Layer::Book => "book",
+            Layer::Service => "service",
+            Layer::Chart => "chart",
+            Layer::Console => "console",
+        })
+    }
+}
+
+// No trait of refusals, with number and place: nothing takes a refusal of any type.
 impl Fault {
     /// The number of the refusal.
     pub fn number(self) -> u8

@@ -8,9 +8,7 @@ use keys::Key;
 use reader::Written;
 
 /// Whatever calls are made from an empty draft, in whatever order, what they answer is a run, and the law holds of every run.
-pub fn every_use_is_a_run<K: Key + Written>() -> u8
+pub fn every_use_is_a_run<K: Key + Written>()
     ensures runs { (slots : ℕ) → StepsRun (record { same = K.same; reading = K.reading }) slots (Represents (record { same = K.same; reading = K.reading }) slots) }
     ensures law { (slots : ℕ) → Law (record { same = K.same; reading = K.reading }) slots }
-{
-    0
-}
+{}

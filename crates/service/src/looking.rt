@@ -5,7 +5,6 @@ ghost use Rattle.service.specs.Looking.{looked};
 ghost use Rattle.service.specs.Represents.{Does};
 ghost use Rattle.service.specs.declared.state.State.TheVariants.{Shut};
 
-use crate::entry::{give_back, take_in};
 use crate::fault::Fault;
 use crate::state::Sealed;
 use charts::{Chart, Holding, hold_at};
@@ -22,13 +21,10 @@ impl<'a, K: Key + Written + Copy> Sealed<'a, K> {
     ) -> Result<Holding, Fault>
         ensures { Does (record { same = K.same; reading = K.reading }) («looking» goal.now (C.value chart.now) release) (Shut self.old) (looked result) [] (Shut self.new) }
     {
-        let mark = self.book.mark();
-        let number = take_in(&mut self.register, &mut self.book, goal)?;
-        let told = hold_at(chart, &self.book, self.book.in_force(), number, release);
-        give_back(&mut self.register, &mut self.book, mark);
-        match told {
-            Some(holding) => Ok(holding),
-            None => Err(Fault::Release),
-        }
+        self.with_goal(
+            goal,
+            &mut |book, number| { hold_at(chart, book, book.in_force(), number, release) },
+        )?
+        .ok_or(Fault::Release)
     }
 }

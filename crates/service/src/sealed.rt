@@ -4,7 +4,6 @@ ghost use Rattle.law.specs.Calls.{suppose as «supposing», withdraw as «withdr
 ghost use Rattle.service.specs.Represents.{Does, told};
 ghost use Rattle.service.specs.declared.state.State.TheVariants.{Open, Shut};
 
-use crate::entry::{give_back, take_in};
 use crate::fault::Fault;
 use crate::state::{Draft, Sealed};
 use book::BookFault;
@@ -16,13 +15,13 @@ impl<'a, K: Key + Written + Copy> Sealed<'a, K> {
     pub fn suppose(&mut self, rule: &[u8]) -> Result<(), Fault>
         ensures { Does (record { same = K.same; reading = K.reading }) («supposing» rule.now) (Shut self.old) (told result) [] (Shut self.new) }
     {
-        if !self.marks.has_room() {
-            return Err(Fault::Book(BookFault::TooManySuppositions));
+        if self.marks.is_full() {
+            return Err(BookFault::TooManySuppositions.into());
         }
-        let mark = self.book.mark();
-        let number = take_in(&mut self.register, &mut self.book, rule)?;
-        self.book.put_in_force(number);
-        self.marks.set(mark);
+        let mark = self.draft.book.mark();
+        let number = self.draft.take_in(rule)?;
+        self.draft.book.put_in_force(number);
+        self.marks.push(mark);
         Ok(())
     }
 
@@ -30,27 +29,19 @@ impl<'a, K: Key + Written + Copy> Sealed<'a, K> {
     pub fn withdraw(&mut self) -> Result<(), Fault>
         ensures { Does (record { same = K.same; reading = K.reading }) «withdrawing» (Shut self.old) (told result) [] (Shut self.new) }
     {
-        match self.marks.take() {
-            Some(mark) => {
-                give_back(&mut self.register, &mut self.book, mark);
-                Ok(())
-            }
-            None => Err(Fault::Book(BookFault::NoneStanding)),
-        }
+        let last = self.marks.pop().ok_or(BookFault::NoneStanding)?;
+        self.draft.give_back(last);
+        Ok(())
     }
 
     /// Ends all suppositions and gives the draft back.
     pub fn reopen(self) -> Draft<'a, K>
         ensures { Does (record { same = K.same; reading = K.reading }) «reopening» (Shut self.entry) done [] (Open result) }
     {
-        let Sealed {
-            mut register,
-            mut book,
-            marks,
-        } = self;
-        if let Some(mark) = marks.first() {
-            give_back(&mut register, &mut book, mark);
+        let Sealed { mut draft, marks } = self;
+        if let Some(first) = marks.first().copied() {
+            draft.give_back(first);
         }
-        Draft { register, book }
+        draft
     }
 }

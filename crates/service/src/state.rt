@@ -1,6 +1,7 @@
 //! The two states of a book.
-use crate::marks::Marks;
-use book::Book;
+use crate::limits::SUPPOSITIONS;
+use arrayvec::ArrayVec;
+use book::{Book, Mark};
 use keys::Register;
 
 /// A book that takes rules.
@@ -13,9 +14,9 @@ pub struct Draft<'a, K> {
 /// A book that takes suppositions and questions.
 #[derive(Drop)]
 pub struct Sealed<'a, K> {
-    pub(crate) register: Register<'a, K>,
-    pub(crate) book: Book,
-    pub(crate) marks: Marks,
+    pub(crate) draft: Draft<'a, K>,
+    /// Where the book stood before each supposition that stands, the first of them first.
+    pub(crate) marks: ArrayVec<Mark, SUPPOSITIONS>,
 }
 
 /// A book in either state.

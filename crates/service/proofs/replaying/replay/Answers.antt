@@ -1,91 +1,50 @@
--- From the empty draft to the next seal, from there to the next reopen, and so on to the end.
-use Rattle.std.proofs.Common.{◌≡◌, ◌<◌, min, map, length, refl, ◌∙◌, arith, length-set}
-use Rattle.law.specs.Calls as law
+-- Each call more is carried out by the state, or the state turns.
+use Rattle.std.proofs.Common.{◌≡◌, ◌+◌, ◌-◌, ◌<◌, ◌≤◌, map, length, drop, Some, inl, inr, sym, ap, ◌∙◌, arith, length-take, length-drop}
+use Rattle.std.proofs.lemmas.List.{get_or_default, get_or-take}
 use Rattle.law.proofs.Law.{law_holds}
-use Rattle.service.specs.declared.calls.Answer.TheVariants.{Done}
-use Rattle.service.specs.declared.calls.Call.TheVariants.{Seal, Reopen}
-use Rattle.service.specs.declared.state.State.TheVariants.{Open, Shut}
-use Rattle.service.proofs.Replayed.{start, turn_one, replays}
+use Rattle.service.specs.declared.state.State.TheVariants.{Open}
+use Rattle.service.proofs.Replayed.{start, one_more, goes_on, replays, length_putMid}
 use Rattle.service.proofs.replaying.replay.Goals as goal
+use Rattle.service.proofs.replaying.replay.Goals.{in-Some, in-None}
 
-pub loop-place-init : goal.loop-place-init
-loop-place-init g c = (
-  omega arith,
+pub loop-i-init : goal.loop-i-init
+loop-i-init g c = (
   omega arith,
   λ slots h.
       start (record { same = g.K.Key.same; reading = g.K.Written.reading }) (map g.C.Chart.value c.args.charts.now) slots c.args.trees.now
-      c.args.answers.now c.args.calls.now (Open c.new-draft.result) h,
+      c.args.answers.now c.args.calls.now (Open c.new.result) h,
 )
 
-pub returns-then-place-count : goal.returns-then-place-count
-returns-then-place-count g c =
-    let charts = map g.C.Chart.value c.args.charts.now in
-    let slots = length c.args.slots.now in
-    let p = c.draft_calls-place in
-    record {
-      replays =
-          replays (record { same = g.K.Key.same; reading = g.K.Written.reading }) charts slots c.args.trees.now c.args.answers.now c.args.calls.now
-          p.result p.new.answers c.loop-place.trees (Open p.new.draft)
-          (p.ensures.goes charts slots c.args.trees.now c.args.answers.now c.loop-place.trees refl (c.loop-place.invariant.2 slots c.new-draft.ensures))
-          (omega (arith, p.ensures.within.1.0, c.if-place-count.true, c.min-count.ensures, p.auto.answers, c.loop-place.auto.answers))
-          p.ensures.within.1.1;
-      law = law_holds _ (record { same = g.K.Key.same; reading = g.K.Written.reading }) slots;
-    }
+pub returns-clause-replays : goal.returns-clause-replays
+returns-clause-replays g c =
+    replays (record { same = g.K.Key.same; reading = g.K.Written.reading }) (map g.C.Chart.value c.args.charts.now) (length c.args.slots.now)
+    c.args.trees.now c.args.answers.now c.args.calls.now c.loop-i.i c.loop-i.byte c.loop-i.answers c.loop-i.trees c.loop-i.state
+    (c.loop-i.invariant.1 _ c.new.ensures)
+    (omega (arith, c.min-count.ensures, c.loop-i-test.false, c.loop-i.auto.i-end, length-take c.min-count.result c.args.calls.now)) c.loop-i.invariant.0
 
-pub returns-then-place-count-2 : goal.returns-then-place-count-2
-returns-then-place-count-2 g c =
-    let charts = map g.C.Chart.value c.args.charts.now in
-    let p = c.draft_calls-place in
-    let q = c.sealed_calls-place in
-    let many : length p.new.answers ≡ length c.args.answers.now = p.auto.answers ∙ c.loop-place.auto.answers in
-    let here : p.result.call < min (length c.args.calls.now) (length p.new.answers) = omega (arith, c.if-place-count.false, c.min-count.ensures, many) in
-    let more : length q.new.answers ≡ length c.args.answers.now = q.auto.answers ∙ length-set p.new.answers p.result.call Done ∙ many in
-    let slots = length c.args.slots.now in
-    let h = c.new-draft.ensures in
-    let sealed =
-    turn_one (record { same = g.K.Key.same; reading = g.K.Written.reading }) charts slots c.args.trees.now c.args.answers.now c.args.calls.now
-    p.result p.new.answers c.loop-place.trees (Open p.new.draft) (Shut c.seal-sealed.result) Seal law.seal refl (λ bytes. refl)
-    (p.ensures.goes charts slots c.args.trees.now c.args.answers.now c.loop-place.trees refl (c.loop-place.invariant.2 slots h))
-    (omega (arith, here)) (omega (arith, here)) p.ensures.within.1.1 (p.ensures.stops here) c.seal-sealed.ensures in
-    record {
-      replays =
-          replays (record { same = g.K.Key.same; reading = g.K.Written.reading }) charts slots c.args.trees.now c.args.answers.now c.args.calls.now
-          q.result q.new.answers q.new.trees (Shut q.new.sealed) (q.ensures.goes slots c.args.trees.now c.args.answers.now sealed)
-          (omega (arith, q.ensures.within.1.0, c.if-place-count-2.true, c.min-count.ensures, more)) q.ensures.within.1.1;
-      law = law_holds _ (record { same = g.K.Key.same; reading = g.K.Written.reading }) slots;
-    }
-
-pub loop-place-preserved : goal.loop-place-preserved
-loop-place-preserved g c =
-    let charts = map g.C.Chart.value c.args.charts.now in
-    let p = c.draft_calls-place in
-    let q = c.sealed_calls-place in
-    let many : length p.new.answers ≡ length c.args.answers.now = p.auto.answers ∙ c.loop-place.auto.answers in
-    let here : p.result.call < min (length c.args.calls.now) (length p.new.answers) = omega (arith, c.if-place-count.false, c.min-count.ensures, many) in
-    let more : length q.new.answers ≡ length c.args.answers.now = q.auto.answers ∙ length-set p.new.answers p.result.call Done ∙ many in
-    let there : q.result.call < min (length c.args.calls.now) (length q.new.answers) = omega (arith, c.if-place-count-2.false, c.min-count.ensures, more) in (
-      omega (arith, c.if-place-count-2.false),
-      q.ensures.within.1.1,
+pub loop-i-preserved : goal.loop-i-preserved
+loop-i-preserved g c =
+    let k = c.loop-i.byte + c.min.result - c.loop-i.byte in
+    let within : c.loop-i.byte + c.min.result ≤ length c.loop-i.trees = omega (arith, c.min.ensures, c.loop-i.invariant.0) in
+    let long : k ≡ length c.carry_out.new.tree =
+    omega (arith, c.carry_out.auto.tree, within, length-take k (drop c.loop-i.byte c.loop-i.trees), length-drop c.loop-i.byte c.loop-i.trees) in
+    let below : c.loop-i.i < length c.args.calls.now =
+    omega (arith, c.loop-i-test.true, c.min-count.ensures, length-take c.min-count.result c.args.calls.now) in (
+      omega (arith, within, length_putMid c.loop-i.byte k c.loop-i.trees c.carry_out.new.tree c.loop-i.invariant.0 (omega (arith, within)) long),
       λ slots h.
-          turn_one (record { same = g.K.Key.same; reading = g.K.Written.reading }) charts slots c.args.trees.now c.args.answers.now c.args.calls.now
-          q.result q.new.answers q.new.trees (Shut q.new.sealed) (Open c.reopen-draft.result) Reopen law.reopen refl (λ bytes. refl)
-          (q.ensures.goes slots c.args.trees.now c.args.answers.now
-          (turn_one (record { same = g.K.Key.same; reading = g.K.Written.reading }) charts slots c.args.trees.now c.args.answers.now c.args.calls.now
-          p.result p.new.answers c.loop-place.trees (Open p.new.draft) (Shut c.seal-sealed.result) Seal law.seal refl (λ bytes. refl)
-          (p.ensures.goes charts slots c.args.trees.now c.args.answers.now c.loop-place.trees refl (c.loop-place.invariant.2 slots h))
-          (omega (arith, here)) (omega (arith, here)) p.ensures.within.1.1 (p.ensures.stops here) c.seal-sealed.ensures))
-          (omega (arith, there)) (omega (arith, there)) q.ensures.within.1.1 (q.ensures.stops there) c.reopen-draft.ensures,
+          one_more _ (map g.C.Chart.value c.args.charts.now) slots c.args.trees.now c.args.answers.now c.args.calls.now c.loop-i.i c.loop-i.byte
+          c.loop-i.answers c.loop-i.trees c.loop-i.state _ _ _ _ c.carry_out.new.tree (c.loop-i.invariant.1 slots h) below
+          (omega (arith, c.loop-i-test.true, c.min-count.ensures, length-take c.min-count.result c.args.calls.now, c.loop-i.auto.answers))
+          c.loop-i.invariant.0
+          (λ d. get_or_default c.args.calls.now c.loop-i.i d _ below ∙ sym (get_or-take c.min-count.result c.args.calls.now c.loop-i.i _ (omega (arith, c.loop-i-test.true, length-take c.min-count.result c.args.calls.now))))
+          (omega (arith, c.min.ensures, c.room.ensures))
+          (goes_on _ (map g.C.Chart.value c.args.charts.now) slots c.args.trees.now c.args.answers.now c.args.calls.now _ _ _ _ _ _ _ _ c.carry_out.ensures
+          (elim c.match-carry_out.branch [
+            | in-Some w ↦ inl (w.in-Some.is ∙ ap Some (sym w.answers-is), w.state-is)
+            | in-None w ↦ inr (w.in-None.is, w.answers-is, rw w.state-is w.turn-state.ensures)
+          ]))
+          c.carry_out.auto.tree,
     )
 
-pub returns : goal.returns
-returns g c =
-    let charts = map g.C.Chart.value c.args.charts.now in
-    let slots = length c.args.slots.now in
-    record {
-      replays =
-          replays (record { same = g.K.Key.same; reading = g.K.Written.reading }) charts slots c.args.trees.now c.args.answers.now c.args.calls.now
-          c.loop-place.place c.loop-place.answers c.loop-place.trees (Open c.loop-place.draft)
-          (c.loop-place.invariant.2 slots c.new-draft.ensures)
-          (omega (arith, c.loop-place.invariant.0, c.loop-place-test.false, c.min-count.ensures)) c.loop-place.invariant.1;
-      law = law_holds _ (record { same = g.K.Key.same; reading = g.K.Written.reading }) slots;
-    }
+pub returns-clause-law : goal.returns-clause-law
+returns-clause-law g c = law_holds _ (record { same = g.K.Key.same; reading = g.K.Written.reading }) (length c.args.slots.now)

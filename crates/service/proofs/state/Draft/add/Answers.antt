@@ -5,15 +5,12 @@ use Rattle.service.proofs.state.Draft.add.Goals as goal
 
 pub returns-in_err-number : goal.returns-in_err-number
 returns-in_err-number g c =
-    let d = c.args.self.now in
     let p = err_from_is_err_and c.from_residual.result c.from_residual.ensures.1 in
     rw (p.1, p.2)
-    (does_add_refused (record { same = g.K.Key.same; reading = g.K.Written.reading }) c.args.rule.now d.register c.take_in.new.register
-    d.book c.take_in.new.book _ c.in_err-number.ensures)
+    (does_add_refused (record { same = g.K.Key.same; reading = g.K.Written.reading }) c.args.rule.now c.args.self.now c.take_in.new.self _
+    c.in_err-number.ensures)
 
 pub returns : goal.returns
 returns g c =
-    let d = c.args.self.now in
-    does_add (record { same = g.K.Key.same; reading = g.K.Written.reading }) c.args.rule.now d.register c.take_in.new.register
-    d.book c.take_in.new.book c.in_ok-number.number c.put_in_force.new.self c.in_ok-number.ensures
-    c.put_in_force.ensures
+    does_add (record { same = g.K.Key.same; reading = g.K.Written.reading }) c.args.rule.now c.args.self.now c.take_in.new.self
+    c.in_ok-number.number c.put_in_force.new.self c.in_ok-number.ensures c.put_in_force.ensures

@@ -3,6 +3,4 @@ use Rattle.service.proofs.Doing.{does_seal}
 use Rattle.service.proofs.state.Draft.seal.Goals as goal
 
 pub returns : goal.returns
-returns g c =
-    let d = c.args.self in
-    does_seal (record { same = g.K.Key.same; reading = g.K.Written.reading }) d.register d.book c.none.result c.none.ensures
+returns g c = does_seal (record { same = g.K.Key.same; reading = g.K.Written.reading }) c.args.self c.new.result c.new.ensures

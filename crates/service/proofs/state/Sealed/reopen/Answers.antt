@@ -1,20 +1,17 @@
 -- The first mark tells how far back to cut; where there is none, nothing is supposed.
+use Rattle.std.proofs.Common.{sym, ap, ◌∙◌, slice_get}
 use Rattle.service.proofs.Supposing.{does_reopen, does_reopen_bare}
 use Rattle.service.proofs.state.Sealed.reopen.Goals as goal
-use Rattle.service.proofs.state.Sealed.reopen.Goals.{in-Some, in_default}
 
-pub returns : goal.returns
-returns g c =
+pub returns-in-Some : goal.returns-in-Some
+returns-in-Some g c =
     let s = c.args.self in
-    elim c.match-first.branch [
-      | in-Some w ↦
-          let first = w.in-Some.ensures in
-          rw (w.register-is, w.book-is)
-          (does_reopen (record { same = g.K.Key.same; reading = g.K.Written.reading }) g.met.K.Key.reflexive s.register
-          w.give_back.new.register s.book w.give_back.new.book s.marks w.in-Some.mark first.0 first.1
-          w.give_back.ensures)
-      | in_default w ↦
-          rw (w.register-is, w.book-is)
-          (does_reopen_bare (record { same = g.K.Key.same; reading = g.K.Written.reading }) s.register s.book s.marks
-          w.in_default.ensures)
-    ]
+    does_reopen (record { same = g.K.Key.same; reading = g.K.Written.reading }) g.met.K.Key.reflexive s.draft c.give_back.new.self
+    s.marks c.in-Some.first
+    (sym (ap (λ l. slice_get l 0) c.deref.ensures.0) ∙ sym c.first.ensures.value ∙ sym c.in-Some.ensures) c.give_back.ensures
+
+pub returns-in_default : goal.returns-in_default
+returns-in_default g c =
+    let s = c.args.self in
+    does_reopen_bare (record { same = g.K.Key.same; reading = g.K.Written.reading }) s.draft s.marks
+    (sym (ap (λ l. slice_get l 0) c.deref.ensures.0) ∙ sym c.first.ensures.value ∙ sym c.in_default.ensures)
