@@ -8,13 +8,13 @@ use Rattle.reader.specs.Text.{oversize}
 use Rattle.reader.specs.TextTotal.{text_reading}
 use Rattle.reader.specs.Written.{Refusal, unread}
 use Rattle.reader.proofs.TextAnswer.{one_answer}
-use Rattle.law.specs.Calls.{Call, Answer, Tally, at_start, Takes, handed, of_sealed, unless_refused}
+use Rattle.law.specs.Calls.{Call, Answer, Tally, Takes, handed, of_sealed, unless_refused}
 use Rattle.law.specs.Limits.{most_suppositions, largest_budget, tree_bytes}
 use Rattle.law.specs.Defined.{Defined, refuses, answers, refusal, refusal_of, unless, or_else, entering, standing, next, zeros}
 use Rattle.law.specs.Standing.{enter_read}
 use Rattle.console.specs.Console.{names, call_of, shown, Answered, made, not_taken, other}
 use Rattle.console.specs.Limits.{line_bytes, budget, room}
-use Rattle.console.specs.Orders.{Ordered, add, seal, suppose, ask, ask_again, marked, ordered}
+use Rattle.console.specs.Orders.{Ordered, add, suppose, ask, ask_again, marked, ordered}
 
 -- a rule that is too long
 abbrev too_long : Refusal
@@ -172,13 +172,3 @@ module _ (slots : ℕ) (t : Tally) where
   kept_answered {p} {t'} held whole kept a =
       alike_answered (ordered (take line_bytes whole)) (ordered whole) (alike_kept whole)
       (subst (λ (x : List ℕ). Answered slots t (ordered x) p t') kept a)
-
--- where the bytes that are kept order the seal, the whole line does
-pub sealed_line : (whole : List ℕ) → ordered (take line_bytes whole) ≡ seal → ordered whole ≡ seal
-sealed_line whole is = go (ordered (take line_bytes whole)) (ordered whole) (alike_kept 0 at_start whole) is
-  where
-    go : (o o' : Ordered) → Alike 0 at_start o o' → o ≡ seal → o' ≡ seal
-    go o o' same e = e
-    go o o' (long m) e =
-        let first : m.first ≡ Call.seal = cc (ap call_of e, m.first_is) in
-        let z : ◌≡◌ {A = ℕ} 0 1 = cc (ap (refusal names 0 at_start) first, m.first_refused) in absurd (omega arith)

@@ -1,36 +1,25 @@
--- What is kept of a line.
-use Rattle.std.proofs.Common.{◌≡◌, ℕ, ◌+◌, ◌<◌, ◌≤◌, min, eqb, List, [], ◌∷◌, ◌++◌, length, take, set, sym, ap, ◌∙◌, arith, length-append, length-take, take_all, rules}
-use lib.Seq.{take-append-le}
-use Rattle.std.proofs.lemmas.List.{take_more_set}
-use Rattle.console.specs.Limits.{line_bytes}
-use Rattle.console.specs.Texts.{no_bytes}
+-- What is kept of the bytes that are put in.
+use Rattle.std.proofs.Common.{◌≡◌, ℕ, ◌+◌, ◌-◌, ◌≤◌, min, List, ◌++◌, length, take, sym, ap, ◌∙◌, arith, length-take, take_all, append-nil}
+use Rattle.std.proofs.Math.Seq.{take-append-add}
+use Rattle.std.proofs.lemmas.List.{take-append-le, take_min}
+use native.Mathlib.Decide.{dec_le}
 
-module _ (bytes whole : List ℕ) (len : ℕ) (full : length bytes ≡ line_bytes) (kept : take len bytes ≡ take line_bytes whole) where
-  -- so many bytes are kept
-  kept_length : min len (length bytes) ≡ min line_bytes (length whole)
-  kept_length = sym (length-take len bytes) ∙ ap length kept ∙ length-take line_bytes whole
+-- more of the whole is kept as far as there is room
+pub kept_more : (n len k : ℕ) (bytes whole more : List ℕ) → length bytes ≡ n → len ≤ n → k ≡ min (length more) (n - len) → take len bytes ≡ take n whole
+    → take len bytes ++ take k more ≡ take n (whole ++ more)
+kept_more n len k bytes whole more full fits least kept = go (dec_le (length whole) n)
+  where
+    counted : min len (length bytes) ≡ min n (length whole)
+    counted = sym (length-take len bytes) ∙ ap length kept ∙ length-take n whole
 
-  -- a byte more, where there is room
-  pub kept_more : (b : ℕ) → len < line_bytes → take (len + 1) (set bytes len b) ≡ take line_bytes (whole ++ b ∷ [])
-  kept_more b room =
-      let counted = kept_length in
-      let short : length whole < line_bytes = omega arith in
-      let inside : len < length bytes = omega arith in
-      let longer : length (whole ++ b ∷ []) ≤ line_bytes = simp length-append (omega arith) in
-      take_more_set bytes len b inside ∙ ap (λ (t : List ℕ). t ++ b ∷ []) (kept ∙ take_all line_bytes whole (omega arith))
-      ∙ sym (take_all line_bytes (whole ++ b ∷ []) longer)
-
-  -- a byte more, where there is none
-  pub kept_full : (b : ℕ) → line_bytes ≤ len → take len bytes ≡ take line_bytes (whole ++ b ∷ [])
-  kept_full b past =
-      let counted = kept_length in
-      let long : line_bytes ≤ length whole = omega arith in
-      kept ∙ sym (take-append-le line_bytes whole (b ∷ []) long)
-
-  -- no byte is kept of an empty line alone
-  pub kept_none : len ≤ line_bytes → eqb len 0 ≡ no_bytes whole
-  kept_none fits = go whole kept_length
-    where
-      go : (w : List ℕ) → min len (length bytes) ≡ min line_bytes (length w) → eqb len 0 ≡ no_bytes w
-      go [] e = let z : len ≡ 0 = omega arith in ap (λ n. eqb n 0) z
-      go (b ∷ bs) e = let z : 0 < len = omega arith in search rules
+    go : Dec (length whole ≤ n) → take len bytes ++ take k more ≡ take n (whole ++ more)
+    go (yes short) =
+        let here : len ≡ length whole = let c = counted in omega arith in
+        let room : min (n - length whole) (length more) ≡ k = omega arith in
+        let there : n ≡ length whole + (n - length whole) = omega arith in
+        ap (λ (t : List ℕ). t ++ take k more) (kept ∙ take_all n whole short)
+        ∙ ap (λ (t : List ℕ). whole ++ t) (ap (λ j. take j more) (sym room) ∙ take_min (n - length whole) more)
+        ∙ sym (ap (λ j. take j (whole ++ more)) there ∙ take-append-add whole more (n - length whole))
+    go (no long) =
+        let none : k ≡ 0 = let c = counted in omega arith in
+        ap (λ j. take len bytes ++ take j more) none ∙ append-nil (take len bytes) ∙ kept ∙ sym (take-append-le n whole more (omega arith))

@@ -1,6 +1,5 @@
-pub mod Marks
-pub mod Pieces
-pub mod Whole
-pub mod Kept
 pub mod Answering
+pub mod Hex
+pub mod Kept
 pub mod Ordering
+pub mod Whole

@@ -1,5 +1,5 @@
 -- What the console's functions do to the book that they are handed.
-use Rattle.std.specs.Prelude.{◌≡◌, ℕ, Bool, List, Some, None, Option}
+use Rattle.std.specs.Prelude.{◌≡◌, ℕ, Bool, List, Some, None, Option, Ok, Err, Result}
 use Rattle.reader.specs.declared.name.Name.{Name}
 use Rattle.law.specs.Calls.{Call, Answer, Tally}
 use Rattle.law.specs.Defined.{zeros}
@@ -7,21 +7,27 @@ use Rattle.service.specs.Represents.{Represents, Does}
 use Rattle.service.specs.declared.state.Draft.{Draft}
 use Rattle.service.specs.declared.state.State.{State}
 use Rattle.service.specs.declared.state.State.TheVariants.{Open}
-use Rattle.console.specs.declared.printed.Printed.{Printed}
+use Rattle.console.specs.declared.refusals.Refused.{Refused}
 use Rattle.console.specs.Console.{names, shown, Answered}
 use Rattle.console.specs.Limits.{budget, room}
 use Rattle.console.specs.Orders.{Ordered, seal}
-use Rattle.console.specs.Texts.{text}
+use Rattle.console.specs.Refusals.{refused_line}
+use Rattle.console.specs.Texts.{Printed, text}
 
 -- the order is answered by the printed bytes, whatever tally the book stands for and however many slots its register has
 abbrev pub Prints : Ordered → State Name → List ℕ → State Name → Type 0
 Prints o s printed s' =
     (slots : ℕ) (t : Tally) → Represents names slots t s → (t' : Tally) × Answered slots t o printed t' × Represents names slots t' s'
 
--- the same over a draft, whose seal is left to the caller
-abbrev pub DraftAnswers : Ordered → Draft Name → Option Printed → Draft Name → Type 0
-DraftAnswers o d None d' = (o ≡ seal) × (d' ≡ d)
-DraftAnswers o d (Some p) d' = Prints o (Open d) (text p) (Open d')
+-- the line that is printed, or the one for the refusal
+abbrev pub line_of : Result Printed Refused → List ℕ
+line_of (Ok p) = text p
+line_of (Err r) = refused_line r
+
+-- the order is answered over a draft, whose seal is left to the caller; line x is the line that x stands for
+abbrev pub DraftAnswers : {X : Type 0} → (X → List ℕ) → Ordered → Draft Name → Option X → Draft Name → Type 0
+DraftAnswers line o d None d' = (o ≡ seal) × (d' ≡ d)
+DraftAnswers line o d (Some x) d' = Prints o (Open d) (line x) (Open d')
 
 -- a goal as the console asks it
 abbrev pub asks : List ℕ → Bool → Call

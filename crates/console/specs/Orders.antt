@@ -1,5 +1,6 @@
 -- What a line orders: its mark, and the rule behind the mark and one blank.
-use Rattle.std.specs.Prelude.{ℕ, cond, List, [], ◌∷◌, ◌==◌}
+use Rattle.std.specs.Prelude.{ℕ, cond, List, [], ◌∷◌, ◌==◌, Some, None, Option}
+use Rattle.prover.specs.declared.task.Restart.TheVariants.{Allowed, Forbidden}
 use Rattle.console.specs.declared.orders.Order.{Order}
 use Rattle.console.specs.declared.orders.Order.TheVariants as variant
 
@@ -38,6 +39,10 @@ order_of (variant.Add rule) = add rule.now
 order_of variant.Seal = seal
 order_of (variant.Suppose rule) = suppose rule.now
 order_of variant.Withdraw = withdraw
-order_of (variant.Ask goal) = ask goal.now
-order_of (variant.AskAgain goal) = ask_again goal.now
-order_of variant.Unknown = unknown
+order_of (variant.Ask Forbidden goal) = ask goal.now
+order_of (variant.Ask Allowed goal) = ask_again goal.now
+
+-- what a line orders of which this order was read, or none
+abbrev pub order_read : Option Order → Ordered
+order_read None = unknown
+order_read (Some o) = order_of o

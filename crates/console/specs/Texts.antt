@@ -1,17 +1,25 @@
 -- What a printed line and a line that is taken in hold.
-use Rattle.std.specs.Prelude.{◌≡◌, ℕ, ◌+◌, ◌/◌, ◌%◌, ◌≤◌, Bool, true, false, List, [], ◌∷◌, ◌++◌, length, take}
+use Rattle.std.specs.Prelude.{◌≡◌, ℕ, ◌/◌, ◌%◌, Bool, true, false, List, [], ◌∷◌, ◌++◌, take}
 use Rattle.std.specs.Fmt.{digit_glyph}
-use Rattle.console.specs.declared.line.Line.{Line}
-use Rattle.console.specs.declared.printed.Printed.{Printed}
-use Rattle.console.specs.Limits.{printed_bytes, line_bytes}
+use Rattle.console.specs.declared.buffer.Buffer.{Buffer}
+use Rattle.console.specs.Limits.{printed_bytes}
 
--- the bytes printed so far
-abbrev pub text : Printed → List ℕ
-text p = take p.len p.bytes
+module _ {n : ℕ} where
+  -- the bytes that were kept
+  abbrev pub text : Buffer n → List ℕ
+  text b = take b.len b.bytes
 
--- the bytes bs were printed behind what was there, if there was room
-abbrev pub Prints : Printed → List ℕ → Printed → Type 0
-Prints p bs p' = length (text p) + length bs ≤ printed_bytes → text p' ≡ text p ++ bs
+  -- of the whole the first bytes are kept
+  abbrev pub Keeps : Buffer n → List ℕ → Type 0
+  Keeps b whole = text b ≡ take n whole
+
+  -- more was put in behind what was there
+  pub record Gains (b : Buffer n) (more : List ℕ) (b' : Buffer n) : Type 0 where
+    pub keeps : (whole : List ℕ) → Keeps b whole → Keeps b' (whole ++ more)
+
+-- a printed line
+abbrev pub Printed : Type 0
+Printed = Buffer printed_bytes
 
 -- a byte in lower-case hexadecimal
 abbrev pub hex : ℕ → List ℕ
@@ -21,14 +29,6 @@ hex b = digit_glyph false (b / 16) ∷ digit_glyph false (b % 16) ∷ []
 abbrev pub hex_all : List ℕ → List ℕ
 hex_all [] = []
 hex_all (b ∷ bs) = hex b ++ hex_all bs
-
--- the bytes of a line that were kept
-abbrev pub held : Line → List ℕ
-held l = take l.len l.bytes
-
--- of the whole line the first bytes are kept
-abbrev pub Keeps : Line → List ℕ → Type 0
-Keeps l whole = held l ≡ take line_bytes whole
 
 abbrev pub no_bytes : List ℕ → Bool
 no_bytes [] = true

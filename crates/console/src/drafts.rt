@@ -1,35 +1,50 @@
 //! The console over a draft.
-ghost use Rattle.std.specs.Prelude.{◌≡◌, ℕ, List, MatchOption};
+ghost use Rattle.std.specs.Prelude.{◌≡◌, ℕ, List};
 ghost use Rattle.service.specs.declared.state.State.TheVariants.{Open, Shut};
-ghost use Rattle.console.specs.Answers.{Prints as «Answers», DraftAnswers};
-ghost use Rattle.console.specs.Orders.{ordered, order_of, seal as «sealing»};
+ghost use Rattle.console.specs.Answers.{Prints as «Answers», DraftAnswers, line_of};
+ghost use Rattle.console.specs.Orders.{ordered, order_read, add as adding, seal as «sealing»};
 ghost use Rattle.console.specs.Texts.{text, Keeps};
 
-use crate::limits::{NOT_TAKEN, UNKNOWN};
-use crate::line::Line;
-use crate::lines::{bad, done, ok};
+use crate::buffer::{Line, Printed};
+use crate::lines::{bad, ok};
 use crate::orders::{Order, read_order};
-use crate::printed::Printed;
+use crate::refusals::Refused;
 use reader::Name;
 use service::{Draft, Sealed};
 
 /// The line that is printed for a line over a draft; nothing for the order to seal it.
 pub fn answer_draft(draft: &mut Draft<'_, Name>, line: &Line) -> Option<Printed>
-    ensures { (whole : List ℕ) → Keeps line.now whole → DraftAnswers (ordered whole) draft.old result draft.new }
+    ensures { (whole : List ℕ) → Keeps line.now whole → DraftAnswers text (ordered whole) draft.old result draft.new }
 {
-    obey_draft(draft, read_order(line.as_bytes()))
+    let answer = obey_draft(draft, read_order(line.as_bytes()))?;
+    Some(answer.unwrap_or_else(bad))
 }
 
 /// Carries out an order over a draft, but for the seal.
-fn obey_draft(draft: &mut Draft<'_, Name>, order: Order<'_>) -> Option<Printed>
-    ensures { DraftAnswers (order_of order.entry) draft.old result draft.new }
+fn obey_draft(
+    draft: &mut Draft<'_, Name>,
+    order: Option<Order<'_>>,
+) -> Option<Result<Printed, Refused>>
+    ensures { DraftAnswers line_of (order_read order.entry) draft.old result draft.new }
 {
+    // No `?`: nothing is printed for the seal, so a refusal lies in an option.
+    let Some(order) = order else {
+        return Some(Err(Refused::Unknown));
+    };
     match order {
-        Order::Add(rule) => Some(done(draft.add(rule))),
+        Order::Add(rule) => Some(add(draft, rule)),
         Order::Seal => None,
-        Order::Unknown => Some(bad(UNKNOWN, 0)),
-        _ => Some(bad(NOT_TAKEN, 0)),
+        _ => Some(Err(Refused::NotTaken)),
     }
+}
+
+/// Adds a rule, and prints that it is done.
+fn add(draft: &mut Draft<'_, Name>, rule: &[u8]) -> Result<Printed, Refused>
+    ensures { «Answers» (adding rule.now) (Open draft.old) (line_of result) (Open draft.new) }
+{
+    // `Ok(draft.add(rule).map(|()| ok())?)` is no plainer.
+    draft.add(rule)?;
+    Ok(ok())
 }
 
 /// A sealed book, and the line that is printed for its seal.

@@ -1,6 +1,8 @@
 //! What a line orders.
-ghost use Rattle.std.specs.Prelude.{◌≡◌, ℕ, ◌≤◌, List, length, drop, MatchOption};
-ghost use Rattle.console.specs.Orders.{ordered, order_of, with_rule, alone, Ordered};
+ghost use Rattle.std.specs.Prelude.{◌≡◌, ℕ, List, MatchOption};
+ghost use Rattle.console.specs.Orders.{ordered, order_read, with_rule, Ordered};
+
+use prover::Restart;
 
 /// An order with the rule or goal that it is about.
 #[derive(Clone, Copy)]
@@ -13,61 +15,29 @@ pub enum Order<'l> {
     Suppose(&'l [u8]),
     /// `<`
     Withdraw,
-    /// `? goal`
-    Ask(&'l [u8]),
-    /// `* goal`, with restart
-    AskAgain(&'l [u8]),
-    /// Any other line.
-    Unknown,
+    /// `? goal`, or with restart `* goal`
+    Ask(Restart, &'l [u8]),
 }
 
-/// The rule behind a line's mark and one blank.
-fn rule_behind(line: &[u8]) -> Option<&[u8]>
-    ensures { MatchOption result ((f : List ℕ → Ordered) → with_rule f (drop 1 line.now) ≡ Rattle.console.specs.Orders.unknown) (λ rule. (f : List ℕ → Ordered) → with_rule f (drop 1 line.now) ≡ f rule.now) }
+/// The rule behind a mark and one blank.
+fn rule_behind(rest: &[u8]) -> Option<&[u8]>
+    ensures { MatchOption result ((f : List ℕ → Ordered) → with_rule f rest.now ≡ Rattle.console.specs.Orders.unknown) (λ rule. (f : List ℕ → Ordered) → with_rule f rest.now ≡ f rule.now) }
 {
-    if line.len() < 2 || line[1] != b' ' {
-        return None;
-    }
-    Some(&line[2..])
+    rest.strip_prefix(b" ")
 }
 
-/// The order of a mark that stands alone.
-fn alone<'l>(line: &'l [u8], order: Order<'l>) -> Order<'l>
-    ensures { order_of result ≡ Rattle.console.specs.Orders.alone (order_of order.entry) (drop 1 line.now) }
+/// What a line orders; nothing for any other line.
+pub fn read_order(line: &[u8]) -> Option<Order<'_>>
+    ensures { order_read result ≡ ordered line.now }
 {
-    if line.len() > 1 {
-        Order::Unknown
-    } else {
-        order
-    }
-}
-
-/// What a line orders.
-pub fn read_order(line: &[u8]) -> Order<'_>
-    ensures { order_of result ≡ ordered line.now }
-{
-    if line.is_empty() {
-        return Order::Unknown;
-    }
-    match line[0] as char {
-        '!' => alone(line, Order::Seal),
-        '<' => alone(line, Order::Withdraw),
-        '+' => match rule_behind(line) {
-            Some(rule) => Order::Add(rule),
-            None => Order::Unknown,
-        },
-        '>' => match rule_behind(line) {
-            Some(rule) => Order::Suppose(rule),
-            None => Order::Unknown,
-        },
-        '?' => match rule_behind(line) {
-            Some(goal) => Order::Ask(goal),
-            None => Order::Unknown,
-        },
-        '*' => match rule_behind(line) {
-            Some(goal) => Order::AskAgain(goal),
-            None => Order::Unknown,
-        },
-        _ => Order::Unknown,
+    let (mark, rest) = line.split_first()?;
+    match *mark as char {
+        '!' => rest.is_empty().then_some(Order::Seal),
+        '<' => rest.is_empty().then_some(Order::Withdraw),
+        '+' => rule_behind(rest).map(Order::Add),
+        '>' => rule_behind(rest).map(Order::Suppose),
+        '?' => rule_behind(rest).map(|goal| Order::Ask(Restart::Forbidden, goal)),
+        '*' => rule_behind(rest).map(|goal| Order::Ask(Restart::Allowed, goal)),
+        _ => None,
     }
 }

@@ -1,10 +1,12 @@
 use Rattle.std.proofs.Common.{ap, ◌∙◌}
-use Rattle.console.specs.Orders.{order_of, ordered}
-use Rattle.console.specs.Texts.{held}
+use Rattle.service.specs.declared.state.State.TheVariants.{Open}
+use Rattle.console.specs.Orders.{order_read, ordered}
+use Rattle.console.specs.Texts.{text}
 use Rattle.console.proofs.drafts.answer_draft.Goals as goal
-use Rattle.console.proofs.Ordering.{draft_kept}
+use Rattle.console.proofs.Ordering.{answered}
 
 pub returns : goal.returns
 returns c whole kept =
-    draft_kept (order_of c.read_order.result) (held c.args.line.now) whole c.args.draft.now c.obey_draft.new.draft c.obey_draft.result
-    (c.read_order.ensures ∙ ap ordered c.as_bytes.ensures) kept c.obey_draft.ensures
+    answered (order_read c.read_order.result) (text c.args.line.now) whole (Open c.args.draft.now) (Open c.obey_draft.new.draft)
+    c.in_ok-answer.answer c.unwrap_or_else.result (c.read_order.ensures ∙ ap ordered c.as_bytes.ensures) kept
+    c.unwrap_or_else.ensures c.in_ok-answer.ensures

@@ -1,9 +1,10 @@
-use Rattle.std.proofs.Common.{rules}
+use Rattle.std.proofs.Common.{ap₂, ◌∙◌, rules}
+use Rattle.console.specs.Lines.{bad_line}
 use Rattle.console.proofs.lines.bad.Goals as goal
-use Rattle.console.proofs.Whole.{bad_printed}
+use Rattle.console.proofs.Whole.{◌⨾◌, finished, bad_fits}
 
 pub returns : goal.returns
 returns c =
-    bad_printed c.args.number c.args.place c.new-line.result c.word.new.self c.decimal.new.self
-    c.word-2.new.self c.decimal-2.new.self c.word-3.new.self (search rules) (search rules) c.new-line.ensures
-    c.word.ensures c.decimal.ensures c.word-2.ensures c.decimal-2.ensures c.word-3.ensures
+    finished (bad_fits c.into.result c.place.result (search rules) (search rules)) c.new-line.ensures.keeps
+    (c.extend_from_slice.ensures ⨾ c.decimal.ensures ⨾ c.extend_from_slice-2.ensures ⨾ c.decimal-2.ensures ⨾ c.extend_from_slice-3.ensures)
+    ∙ ap₂ bad_line (c.into.ensures ∙ c.number.ensures) c.place.ensures

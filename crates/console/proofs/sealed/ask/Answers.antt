@@ -1,17 +1,14 @@
-use Rattle.std.proofs.Common.{Ok, ap, ◌∙◌}
+use Rattle.std.proofs.Common.{ap}
 use Rattle.law.specs.Calls.{refused}
-use Rattle.service.specs.Faults.{fault_number, refusal}
-use Rattle.service.specs.Questions.{asked}
-use Rattle.console.specs.Lines.{bad_line}
+use Rattle.service.specs.Faults.{refusal}
+use Rattle.console.specs.Answers.{line_of}
 use Rattle.console.proofs.sealed.ask.Goals as goal
+use Rattle.console.proofs.Ordering.{handed_on}
 
-pub returns-in-Ok : goal.returns-in-Ok
-returns-in-Ok c = (asked (Ok c.in-Ok.outcome), c.ask.new.tree, c.in-Ok.ensures, c.found.ensures)
-
-pub returns-in-Err : goal.returns-in-Err
-returns-in-Err c = (
-  refused (refusal c.in-Err.fault),
+pub returns-in_err-outcome : goal.returns-in_err-outcome
+returns-in_err-outcome c = (
+  refused (refusal c.in_err-outcome.field-0.0),
   c.ask.new.tree,
-  c.in-Err.ensures,
-  c.bad.ensures ∙ ap (λ n. bad_line n c.place.result) c.number.ensures ∙ ap (λ p. bad_line (fault_number c.in-Err.fault) p) c.place.ensures,
+  c.in_err-outcome.ensures,
+  ap line_of (handed_on c.from_residual.result c.from_residual.ensures.1),
 )

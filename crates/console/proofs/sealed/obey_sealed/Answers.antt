@@ -1,43 +1,58 @@
-use Rattle.std.proofs.Common.{true, false, [], ap}
-use Rattle.law.specs.Calls.{Call}
-use Rattle.service.specs.Represents.{told}
+use Rattle.std.proofs.Common.{◌≡◌, false, [], ok_or, ap, ◌∙◌, refl, sym, subst}
+use Rattle.law.specs.Calls.{Call, refused, done}
+use Rattle.prover.specs.Settings.{allowed}
+use Rattle.service.specs.Faults.{refusal}
 use Rattle.service.specs.declared.state.State.TheVariants.{Shut}
-use Rattle.console.specs.Answers.{asks}
+use Rattle.console.specs.Answers.{asks, line_of}
 use Rattle.console.specs.Console.{call_of}
-use Rattle.console.specs.Orders.{order_of}
+use Rattle.console.specs.Orders.{order_read}
+use Rattle.console.specs.Refusals.{refused_line}
 use Rattle.console.specs.Texts.{text}
+use Rattle.console.specs.declared.refusals.Refused.TheVariants.{Unknown}
 use Rattle.console.proofs.sealed.obey_sealed.Goals as goal
-use Rattle.console.proofs.Ordering.{made_prints, other_prints, sealed_not_taken, not_of_sealed}
+use Rattle.console.proofs.Ordering.{Elsewhere, ordered_call, asked_call, made_prints, other_prints, sealed_not_taken, not_of_sealed, handed_on}
 
-pub returns-in-Suppose : goal.returns-in-Suppose
-returns-in-Suppose c =
-    made_prints (order_of c.args.order) (Call.suppose c.in-Suppose.rule.now) (told c.suppose.result) [] (text c.done.result)
-    (Shut c.args.sealed.now) (Shut c.suppose.new.self) (ap (λ o. call_of (order_of o)) c.in-Suppose.is) c.suppose.ensures c.done.ensures
+pub returns-in_err-rule : goal.returns-in_err-rule
+returns-in_err-rule c =
+    let none_read = c.in_err-rule.ensures.ok_part in
+    let unknown : c.in_err-rule.field-0.0 ≡ Unknown = cc (c.in_err-rule.ensures.value, ap (λ o. ok_or o Unknown) none_read) in
+    other_prints (order_read c.args.order) _ (Shut c.args.sealed.now) (ap (λ o. call_of (order_read o)) none_read)
+    (ap line_of (handed_on c.from_residual.result c.from_residual.ensures.1) ∙ ap refused_line unknown)
 
-pub returns-in-Withdraw : goal.returns-in-Withdraw
-returns-in-Withdraw c =
-    made_prints (order_of c.args.order) Call.withdraw (told c.withdraw.result) [] (text c.done-in-Withdraw.result)
-    (Shut c.args.sealed.now) (Shut c.withdraw.new.self) (ap (λ o. call_of (order_of o)) c.in-Withdraw.is) c.withdraw.ensures c.done-in-Withdraw.ensures
+pub returns-in_err-suppose-in-Suppose : goal.returns-in_err-suppose-in-Suppose
+returns-in_err-suppose-in-Suppose c =
+    made_prints (order_read c.args.order) (Call.suppose c.in-Suppose.rule.now) (refused (refusal c.in_err-suppose-in-Suppose.field-0.0)) [] _
+    (Shut c.args.sealed.now) (Shut c.suppose.new.self) (ordered_call c.in_ok-rule.ensures.ok_part c.in-Suppose.is refl)
+    c.in_err-suppose-in-Suppose.ensures (ap line_of (handed_on c.from_residual-in_err-suppose-in-Suppose.result c.from_residual-in_err-suppose-in-Suppose.ensures.1))
+
+pub returns-in_ok-suppose-in-Suppose : goal.returns-in_ok-suppose-in-Suppose
+returns-in_ok-suppose-in-Suppose c =
+    made_prints (order_read c.args.order) (Call.suppose c.in-Suppose.rule.now) done [] (text c.ok.result)
+    (Shut c.args.sealed.now) (Shut c.suppose.new.self) (ordered_call c.in_ok-rule.ensures.ok_part c.in-Suppose.is refl)
+    c.in_ok-suppose-in-Suppose.ensures c.ok.ensures
+
+pub returns-in_err-withdraw-in-Withdraw : goal.returns-in_err-withdraw-in-Withdraw
+returns-in_err-withdraw-in-Withdraw c =
+    made_prints (order_read c.args.order) Call.withdraw (refused (refusal c.in_err-withdraw-in-Withdraw.field-0.0)) [] _
+    (Shut c.args.sealed.now) (Shut c.withdraw.new.self) (ordered_call c.in_ok-rule.ensures.ok_part c.in-Withdraw.is refl)
+    c.in_err-withdraw-in-Withdraw.ensures (ap line_of (handed_on c.from_residual-in_err-withdraw-in-Withdraw.result c.from_residual-in_err-withdraw-in-Withdraw.ensures.1))
+
+pub returns-in_ok-withdraw-in-Withdraw : goal.returns-in_ok-withdraw-in-Withdraw
+returns-in_ok-withdraw-in-Withdraw c =
+    made_prints (order_read c.args.order) Call.withdraw done [] (text c.ok-in-Withdraw.result)
+    (Shut c.args.sealed.now) (Shut c.withdraw.new.self) (ordered_call c.in_ok-rule.ensures.ok_part c.in-Withdraw.is refl)
+    c.in_ok-withdraw-in-Withdraw.ensures c.ok-in-Withdraw.ensures
 
 pub returns-in-Ask : goal.returns-in-Ask
 returns-in-Ask c =
     let r = c.ask.ensures in
-    made_prints (order_of c.args.order) (asks c.in-Ask.goal.now false) r.0 r.1 (text c.ask.result)
-    (Shut c.args.sealed.now) (Shut c.ask.new.sealed) (ap (λ o. call_of (order_of o)) c.in-Ask.is) r.2 r.3
-
-pub returns-in-AskAgain : goal.returns-in-AskAgain
-returns-in-AskAgain c =
-    let r = c.ask-in-AskAgain.ensures in
-    made_prints (order_of c.args.order) (asks c.in-AskAgain.goal.now true) r.0 r.1 (text c.ask-in-AskAgain.result)
-    (Shut c.args.sealed.now) (Shut c.ask-in-AskAgain.new.sealed) (ap (λ o. call_of (order_of o)) c.in-AskAgain.is) r.2 r.3
-
-pub returns-in-Unknown : goal.returns-in-Unknown
-returns-in-Unknown c =
-    other_prints (order_of c.args.order) (text c.bad.result) (Shut c.args.sealed.now)
-    (ap (λ o. call_of (order_of o)) c.in-Unknown.is) c.bad.ensures
+    made_prints (order_read c.args.order) (asks c.in-Ask.goal.now (allowed c.in-Ask.restart)) r.0 r.1 (line_of c.ask.result)
+    (Shut c.args.sealed.now) (Shut c.ask.new.sealed)
+    (ordered_call c.in_ok-rule.ensures.ok_part c.in-Ask.is (asked_call c.in-Ask.restart c.in-Ask.goal)) r.2 r.3
 
 pub returns-in_default : goal.returns-in_default
 returns-in_default c =
-    sealed_not_taken (order_of c.args.order) (text c.bad-in_default.result) c.args.sealed.now
-    (not_of_sealed c.args.order c.in_default.not-Suppose c.in_default.not-Withdraw c.in_default.not-Ask c.in_default.not-AskAgain c.in_default.not-Unknown)
-    c.bad-in_default.ensures
+    sealed_not_taken (order_read c.args.order) _ c.args.sealed.now
+    (subst (λ o. Elsewhere false (order_read o)) (sym c.in_ok-rule.ensures.ok_part)
+    (not_of_sealed c.in_ok-rule.field-0 c.in_default.not-Suppose c.in_default.not-Withdraw c.in_default.not-Ask))
+    refl

@@ -1,0 +1,6 @@
+use Rattle.std.proofs.Common.{arith}
+use Rattle.console.proofs.lines.ok.Goals as goal
+use Rattle.console.proofs.Whole.{finished}
+
+pub returns : goal.returns
+returns c = finished (omega arith) c.new-line.ensures.keeps c.extend_from_slice.ensures
