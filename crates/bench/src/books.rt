@@ -1,8 +1,6 @@
 //! The books that are timed.
-use anyhow::anyhow;
-use reader::Name;
-use service::Draft;
-use std::alloc::Global;
+use std::alloc::{AllocError, Global};
+use std::fmt;
 
 /// The three kinds of books.
 #[derive(Clone, Copy)]
@@ -15,70 +13,61 @@ pub enum Kind {
     Layers,
 }
 
-impl Kind {
-    /// What the book is called.
-    pub fn name(self) -> &'static str {
-        match self {
+/// What the book is called.
+impl fmt::Display for Kind {
+    fn fmt<W: fmt::Write>(&self, f: &mut fmt::Formatter<W>) -> fmt::Result {
+        f.write_str(match self {
             Kind::Doubling => "doubling",
             Kind::Supposing => "supposing",
             Kind::Layers => "layers",
-        }
+        })
     }
+}
 
-    /// Adds the rules of the book.
-    pub fn add(self, heap: Global, draft: &mut Draft<'_, Name>) -> anyhow::Result<()> {
+impl Kind {
+    /// Every kind.
+    pub const ALL: [Kind; 3] = [Kind::Doubling, Kind::Supposing, Kind::Layers];
+
+    /// The rules of the book.
+    pub fn rules(self, heap: Global) -> Result<Vec<String>, AllocError> {
         match self {
-            Kind::Doubling => add_doubling(heap, draft, 30),
-            Kind::Supposing => add_supposing(heap, draft, 24),
-            Kind::Layers => add_layers(heap, draft, 15),
+            Kind::Doubling => chain(heap, 30, |level, next| {
+                format!(in heap; "n{level} if n{next}, n{next}")
+            }),
+            Kind::Supposing => chain(heap, 24, |level, next| {
+                format!(in heap; "n{level} if (n{next} if x), (n{next} if x)")
+            }),
+            Kind::Layers => layers(heap, 15),
         }
     }
 }
 
-fn add_rule(draft: &mut Draft<'_, Name>, rule: &str) -> anyhow::Result<()> {
-    match draft.add(rule.as_bytes()) {
-        Ok(()) => Ok(()),
-        Err(_) => Err(anyhow!("a rule is refused")),
-    }
-}
-
-fn add_doubling(heap: Global, draft: &mut Draft<'_, Name>, levels: u8) -> anyhow::Result<()> {
+/// The rule of each level and the next one, and the last level as a fact.
+fn chain<F: Fn(u8, u8) -> Result<String, AllocError>>(
+    heap: Global,
+    levels: u8,
+    rule: F,
+) -> Result<Vec<String>, AllocError>
+    requires { F.IsAlwaysCallable rule }
+{
+    let mut rules = Vec::new(heap);
     for level in 0..levels {
-        let next = level + 1;
-        let rule = format!(in heap; "n{level} if n{next}, n{next}")?;
-        add_rule(draft, &rule)?;
+        rules.push(rule(level, level + 1)?)?;
     }
-    let fact = format!(in heap; "n{levels}")?;
-    add_rule(draft, &fact)
+    rules.push(format!(in heap; "n{levels}")?)?;
+    Ok(rules)
 }
 
-fn add_supposing(heap: Global, draft: &mut Draft<'_, Name>, levels: u8) -> anyhow::Result<()> {
-    for level in 0..levels {
-        let next = level + 1;
-        let rule = format!(in heap; "n{level} if (n{next} if x), (n{next} if x)")?;
-        add_rule(draft, &rule)?;
-    }
-    let fact = format!(in heap; "n{levels}")?;
-    add_rule(draft, &fact)
-}
-
-fn add_layers(heap: Global, draft: &mut Draft<'_, Name>, layers: u8) -> anyhow::Result<()> {
-    for layer in 0..layers {
-        let first = u16::from(layer) * 2;
-        add_layer(heap, draft, first)?;
-    }
-    Ok(())
-}
-
-/// The two names from `first` on follow from either of the two behind them.
-fn add_layer(heap: Global, draft: &mut Draft<'_, Name>, first: u16) -> anyhow::Result<()> {
-    let upper = [first, first.saturating_add(1)];
-    let lower = [first.saturating_add(2), first.saturating_add(3)];
-    for head in upper {
-        for body in lower {
-            let rule = format!(in heap; "n{head} if n{body}")?;
-            add_rule(draft, &rule)?;
+/// The two names of each layer follow from either of the two of the next one.
+fn layers(heap: Global, count: u8) -> Result<Vec<String>, AllocError> {
+    let mut rules = Vec::new(heap);
+    for layer in 0..count {
+        let first = 2 * u16::from(layer);
+        for head in [first, first + 1] {
+            for body in [first + 2, first + 3] {
+                rules.push(format!(in heap; "n{head} if n{body}")?)?;
+            }
         }
     }
-    Ok(())
+    Ok(rules)
 }

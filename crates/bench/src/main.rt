@@ -4,125 +4,122 @@
 
 mod books;
 
+use anyhow::anyhow;
 use books::Kind;
 use prover::{Outcome, QUERIES, Restart};
 use reader::Name;
-use service::{Draft, Sealed};
+use service::{Draft, Fault, Sealed};
 use std::time::Instant;
-use std::{env, io};
+use std::{env, fmt, io};
 
 /// The budget where nothing is timed.
 const SMALL_BUDGET: u32 = 100_000;
 /// How often a question is asked where it is timed.
 const REPEATS: u32 = 50;
+/// No book has more names.
+const SLOTS: usize = 64;
 /// The bytes of the tree buffer.
 const ROOM: usize = 4_096;
 
-/// What a run does.
+/// The question whether `n0` follows in a kind of book, without restart or with it.
+// Without the book: a question is printed, and copied into the step.
 #[derive(Clone, Copy)]
-enum Work {
-    Show,
-    Time,
-}
-
-fn restart_words(restart: Restart) -> &'static str {
-    match restart {
-        Restart::Forbidden => "",
-        Restart::Allowed => " with restart",
-    }
-}
-
-/// How many queries a question counted; nothing where it was refused.
-fn ask_once(book: &mut Sealed<'_, Name>, restart: Restart) -> u32 {
-    let mut tree = [0; ROOM];
-    match book.ask(b"n0", restart, QUERIES, &mut tree) {
-        Ok(Outcome::Yes { count, .. }) | Ok(Outcome::Long { count, .. }) => count,
-        Ok(Outcome::No { count }) | Ok(Outcome::Spent { count }) => count,
-        Err(_) => 0,
-    }
-}
-
-/// Asks again and again, and gives the number of all queries.
-fn ask_often(book: &mut Sealed<'_, Name>, restart: Restart) -> u64 {
-    let mut total = 0u64;
-    for _ in 0..REPEATS {
-        total = total.saturating_add(u64::from(ask_once(book, restart)));
-    }
-    total
-}
-
-fn show(
-    rt: &HostRuntime,
-    name: &str,
-    book: &mut Sealed<'_, Name>,
+struct Question {
+    kind: Kind,
     restart: Restart,
-) -> io::Result<()> {
-    let words = restart_words(restart);
-    let mut tree = [0; ROOM];
-    match book.ask(b"n0", restart, SMALL_BUDGET, &mut tree) {
-        Ok(Outcome::Yes { count, len }) => println!(rt; "{name}{words}: yes {count} {len}"),
-        Ok(Outcome::No { count }) => println!(rt; "{name}{words}: no {count}"),
-        Ok(Outcome::Spent { count }) => println!(rt; "{name}{words}: spent {count}"),
-        Ok(Outcome::Long { count, len }) => println!(rt; "{name}{words}: long {count} {len}"),
-        Err(_) => println!(rt; "{name}{words}: refused"),
+}
+
+impl fmt::Display for Question {
+    fn fmt<W: fmt::Write>(&self, f: &mut fmt::Formatter<W>) -> fmt::Result {
+        let kind = self.kind;
+        match self.restart {
+            Restart::Forbidden => write!(f, "{kind}"),
+            Restart::Allowed => write!(f, "{kind} with restart"),
+        }
     }
 }
 
-fn time(
-    rt: &HostRuntime,
-    name: &str,
-    book: &mut Sealed<'_, Name>,
-    restart: Restart,
-) -> io::Result<()> {
-    let words = restart_words(restart);
+impl Question {
+    fn ask(self, book: &mut Sealed<'_, Name>, budget: u32) -> Result<Outcome, Fault> {
+        let mut tree = [0; ROOM];
+        book.ask(b"n0", self.restart, budget, &mut tree)
+    }
+
+    /// Asks again and again, and gives the number of all queries.
+    fn ask_often(self, book: &mut Sealed<'_, Name>) -> Result<u64, Fault> {
+        (0..REPEATS).try_fold(0u64, |total, _| {
+            let count = count(self.ask(book, QUERIES)?);
+            Ok(total.saturating_add(u64::from(count)))
+        })
+    }
+}
+
+/// How many queries were counted.
+fn count(outcome: Outcome) -> u32 {
+    match outcome {
+        Outcome::Yes { count, .. }
+        | Outcome::No { count }
+        | Outcome::Spent { count }
+        | Outcome::Long { count, .. } => count,
+    }
+}
+
+fn show(rt: &HostRuntime, question: Question, book: &mut Sealed<'_, Name>) -> io::Result<()> {
+    match question.ask(book, SMALL_BUDGET) {
+        Ok(Outcome::Yes { count, len }) => println!(rt; "{question}: yes {count} {len}"),
+        Ok(Outcome::No { count }) => println!(rt; "{question}: no {count}"),
+        Ok(Outcome::Spent { count }) => println!(rt; "{question}: spent {count}"),
+        Ok(Outcome::Long { count, len }) => println!(rt; "{question}: long {count} {len}"),
+        Err(_) => println!(rt; "{question}: refused"),
+    }
+}
+
+fn time(rt: &HostRuntime, question: Question, book: &mut Sealed<'_, Name>) -> io::Result<()> {
     let start = Instant::now(rt)?;
-    let total = ask_often(book, restart);
-    let nanos = start.elapsed(rt)?.as_nanos();
-    if total == 0 {
-        return println!(rt; "{name}{words}: refused");
-    }
-    let tenths = nanos * 10 / u128::from(total);
-    let whole = tenths / 10;
-    let part = tenths % 10;
-    println!(rt; "{name}{words}: {whole}.{part} ns a query")
-}
-
-fn run(
-    rt: &HostRuntime,
-    name: &str,
-    book: &mut Sealed<'_, Name>,
-    restart: Restart,
-    work: Work,
-) -> io::Result<()> {
-    match work {
-        Work::Show => show(rt, name, book, restart),
-        Work::Time => time(rt, name, book, restart),
+    let queries = question.ask_often(book);
+    let tenths = start.elapsed(rt)?.as_nanos() * 10;
+    let per_query = queries
+        .ok()
+        .and_then(|queries| tenths.checked_div(u128::from(queries)));
+    match per_query {
+        Some(tenths) => {
+            let whole = tenths / 10;
+            let part = tenths % 10;
+            println!(rt; "{question}: {whole}.{part} ns a query")
+        }
+        None => println!(rt; "{question}: refused"),
     }
 }
 
-/// One kind of book, without restart and with it.
-fn run_kind(rt: &HostRuntime, kind: Kind, work: Work) -> anyhow::Result<()> {
-    let mut slots = [Name::new(b""); 64];
-    let mut draft = Draft::new(&mut slots);
-    kind.add(rt.alloc(), &mut draft)?;
-    let mut book = draft.seal();
-    run(rt, kind.name(), &mut book, Restart::Forbidden, work)?;
-    run(rt, kind.name(), &mut book, Restart::Allowed, work)?;
+/// Takes the step with each question: each kind of book, without restart and with it.
+// A book borrows slots of its own turn of the loop, so the step comes to the book.
+fn run<F>(rt: &HostRuntime, step: F) -> anyhow::Result<()>
+where
+    F: Fn(&HostRuntime, Question, &mut Sealed<'_, Name>) -> io::Result<()>,
+    requires { F.IsAlwaysCallable step }
+{
+    for kind in Kind::ALL {
+        let mut slots = [Name::new(b""); SLOTS];
+        let mut draft = Draft::new(&mut slots);
+        for rule in kind.rules(rt.alloc())? {
+            draft
+                .add(rule.as_bytes())
+                .map_err(|_| anyhow!("a rule is refused"))?;
+        }
+        let mut book = draft.seal();
+        for restart in [Restart::Forbidden, Restart::Allowed] {
+            step(rt, Question { kind, restart }, &mut book)?;
+        }
+    }
     Ok(())
 }
 
-/// Timing is asked for by any word behind the program's name.
-fn work_wanted(rt: &HostRuntime) -> anyhow::Result<Work> {
-    let mut words = 0u32;
-    for _word in env::args(rt)? {
-        words = words.saturating_add(1);
-    }
-    Ok(if words > 1 { Work::Time } else { Work::Show })
-}
-
 fn main(rt: HostRuntime) -> anyhow::Result<()> {
-    let work = work_wanted(&rt)?;
-    run_kind(&rt, Kind::Doubling, work)?;
-    run_kind(&rt, Kind::Supposing, work)?;
-    run_kind(&rt, Kind::Layers, work)
+    // Timing is asked for by any word behind the program's name.
+    let timed = env::args(&rt)?.nth(1).is_some();
+    if timed {
+        run(&rt, time)
+    } else {
+        run(&rt, show)
+    }
 }

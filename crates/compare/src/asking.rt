@@ -1,12 +1,11 @@
 //! Asks and checks of the service beside those of the slow prover.
-use crate::counts::Counts;
-use crate::judge::{Judgement, judge};
-use crate::slow::{Again, Found, Outcome as SlowOutcome, Task, decide};
-use keys::Key;
+use crate::comparing::Comparison;
+use crate::forms::Form;
+use crate::judge::{Judgement, NoTree, judge};
+use crate::slow::{Again, Outcome as SlowOutcome, Stop, Task, decide};
 use prover::{Outcome, Restart, Verdict};
-use reader::Written;
 use service::Sealed;
-use std::alloc::{AllocError, Global};
+use std::alloc::AllocError;
 
 /// The byte that a buffer is filled with before an ask.
 const UNTOUCHED: u8 = 0xaa;
@@ -20,13 +19,6 @@ const ROOM: usize = 64;
 /// No longer tree is changed byte by byte.
 const LONGEST_CHANGED: usize = 16;
 
-/// A goal as it is asked: its bytes, and what is asked of the slow prover.
-#[derive(Clone, Copy)]
-pub struct Goal<'b, 't> {
-    pub bytes: &'b [u8],
-    pub task: Task<'t>,
-}
-
 /// With what an ask is made.
 #[derive(Clone, Copy)]
 struct Settings {
@@ -35,220 +27,158 @@ struct Settings {
 }
 
 /// Whether the trees that are found are changed byte by byte.
-#[derive(Clone, Copy)]
+#[derive(Clone, Copy, PartialEq)]
 pub enum Changes {
     Made,
     LeftOut,
 }
 
-impl Changes {
-    /// At how many places a tree of this length is changed.
-    fn places(self, length: usize) -> usize {
-        match self {
-            Changes::Made if length <= LONGEST_CHANGED => length,
-            Changes::Made | Changes::LeftOut => 0,
-        }
-    }
-}
-
-impl<'b, 't> Goal<'b, 't> {
-    /// The same with another choice of restart.
-    fn with(&self, again: Again) -> Goal<'b, 't> {
-        let Task {
-            rules,
-            in_force,
-            goal,
-            ..
-        } = self.task;
-        Goal {
-            bytes: self.bytes,
-            task: Task {
-                rules,
-                in_force,
-                goal,
-                again,
-            },
-        }
-    }
-}
-
 /// The choice of restart, as the service takes it.
-fn restart_of(again: Again) -> Restart {
-    match again {
-        Again::Never => Restart::Forbidden,
-        Again::Always => Restart::Allowed,
+impl From<Again> for Restart {
+    fn from(again: Again) -> Restart {
+        match again {
+            Again::Never => Restart::Forbidden,
+            Again::Always => Restart::Allowed,
+        }
+    }
+}
+
+/// What the service says of bytes that are no tree.
+impl From<NoTree> for Verdict {
+    fn from(NoTree { place }: NoTree) -> Verdict {
+        Verdict::Rejected { place }
     }
 }
 
 /// Whether the buffer holds the tree and zeros behind it.
 fn is_tree_with_zeros(buffer: &[u8], tree: &[u8]) -> bool {
-    for (place, byte) in buffer.iter().enumerate() {
-        if *byte != tree.get(place).copied().unwrap_or(0) {
-            return false;
-        }
-    }
-    tree.len() <= buffer.len()
+    buffer
+        .strip_prefix(tree)
+        .is_some_and(|rest| rest.iter().all(|byte| *byte == 0))
 }
 
-/// Notes a yes, or a long where the tree exceeds the buffer.
-fn note_tree(counts: &mut Counts, count: u32, tree: &[u8], got: Option<Outcome>, buffer: &[u8]) {
-    let size = tree.len();
-    if size <= buffer.len() {
-        let agreed = match got {
-            Some(Outcome::Yes { count: n, len }) => n == count && len == size,
-            _ => false,
+/// A goal beside its book: the sealed book that is asked, the bytes of the goal, and what is asked of the slow prover.
+#[derive(Drop)]
+pub struct Asking<'a, 's, K> {
+    pub comparison: &'a mut Comparison,
+    pub book: &'a mut Sealed<'s, K>,
+    pub bytes: &'a [u8],
+    pub task: Task<'a>,
+}
+
+impl<'a, 's, K: Form> Asking<'a, 's, K> {
+    /// Notes an answer beside what the slow prover came to. A tree that exceeds the buffer is not written.
+    fn note_outcome(
+        &mut self,
+        wanted: &SlowOutcome,
+        got: Option<Outcome>,
+        buffer: &[u8],
+    ) -> Result<(), AllocError> {
+        let agrees = |wanted: Outcome, tree: &[u8]| {
+            got == Some(wanted) && is_tree_with_zeros(buffer, tree)
         };
-        counts.yes.note(agreed && is_tree_with_zeros(buffer, tree));
-    } else {
-        let agreed = match got {
-            Some(Outcome::Long { count: n, len }) => n == count && len == size,
-            _ => false,
-        };
-        counts.long.note(agreed && is_tree_with_zeros(buffer, &[]));
-    }
-}
-
-/// Notes an answer beside what the slow prover came to.
-fn note_outcome(counts: &mut Counts, wanted: &SlowOutcome, got: Option<Outcome>, buffer: &[u8]) {
-    let blank = is_tree_with_zeros(buffer, &[]);
-    match &wanted.found {
-        Found::Yes(tree) => note_tree(counts, wanted.count, tree, got, buffer),
-        Found::No => counts.no.note(match got {
-            Some(Outcome::No { count }) => blank && count == wanted.count,
-            _ => false,
-        }),
-        Found::Spent => counts.spent.note(match got {
-            Some(Outcome::Spent { count }) => blank && count == wanted.count,
-            _ => false,
-        }),
-        Found::Lost => counts.no.note(false),
-    }
-}
-
-/// Asks with a budget and a buffer of so many bytes, and compares with what it comes to.
-fn compare_ask<K: Key + Written + Copy>(
-    heap: Global,
-    counts: &mut Counts,
-    book: &mut Sealed<'_, K>,
-    goal: &Goal<'_, '_>,
-    settings: Settings,
-    wanted: &SlowOutcome,
-) -> Result<(), AllocError> {
-    let mut buffer = vec![in heap; UNTOUCHED; settings.room]?;
-    let restart = restart_of(goal.task.again);
-    let got = book.ask(goal.bytes, restart, settings.budget, &mut buffer);
-    note_outcome(counts, wanted, got.ok(), &buffer);
-    Ok(())
-}
-
-/// Whether the service judges bytes as the slow judge did.
-fn agrees<K: Key + Written + Copy>(
-    book: &mut Sealed<'_, K>,
-    goal: &Goal<'_, '_>,
-    bytes: &[u8],
-    wanted: Judgement,
-) -> bool {
-    match book.check(goal.bytes, restart_of(goal.task.again), bytes) {
-        Ok(Verdict::Accepted) => wanted == Judgement::Tree,
-        Ok(Verdict::Rejected { place }) => wanted == Judgement::NoTree { place },
-        Err(_) => false,
-    }
-}
-
-/// Checks bytes near a tree, with each choice of restart.
-fn compare_changed<K: Key + Written + Copy>(
-    heap: Global,
-    counts: &mut Counts,
-    book: &mut Sealed<'_, K>,
-    goal: &Goal<'_, '_>,
-    bytes: &[u8],
-) -> Result<(), AllocError> {
-    for again in [Again::Never, Again::Always] {
-        let goal = goal.with(again);
-        let wanted = judge(heap, &goal.task, bytes)?;
-        let agreed = agrees(book, &goal, bytes, wanted);
-        match wanted {
-            Judgement::Tree => counts.changed.note(agreed),
-            Judgement::NoTree { .. } => counts.spoilt.note(agreed),
-        }
-    }
-    Ok(())
-}
-
-/// Puts every other byte at one place of a tree.
-fn change_at<K: Key + Written + Copy>(
-    heap: Global,
-    counts: &mut Counts,
-    book: &mut Sealed<'_, K>,
-    goal: &Goal<'_, '_>,
-    tree: &[u8],
-    place: usize,
-) -> Result<(), AllocError> {
-    let mut bytes = Vec::from_slice(heap, tree)?;
-    for value in 0..=255u8 {
-        if tree.get(place).copied() != Some(value) {
-            if let Some(byte) = bytes.get_mut(place) {
-                *byte = value;
+        let counts = &mut self.comparison.counts;
+        let count = wanted.count;
+        match &wanted.found {
+            Ok(Some(tree)) => {
+                let len = tree.len();
+                if len <= buffer.len() {
+                    counts.yes.note(agrees(Outcome::Yes { count, len }, tree));
+                } else {
+                    counts.long.note(agrees(Outcome::Long { count, len }, &[]));
+                }
             }
-            compare_changed(heap, counts, book, goal, &bytes)?;
+            Ok(None) => counts.no.note(agrees(Outcome::No { count }, &[])),
+            Err(Stop::Spent) => counts.spent.note(agrees(Outcome::Spent { count }, &[])),
+            Err(Stop::Lost) => counts.no.note(false),
+            Err(Stop::Memory(error)) => return Err(*error),
         }
+        Ok(())
     }
-    Ok(())
-}
 
-/// Checks a tree that was found, and asks for it with just enough room and with one byte less.
-fn compare_tree<K: Key + Written + Copy>(
-    heap: Global,
-    counts: &mut Counts,
-    book: &mut Sealed<'_, K>,
-    goal: &Goal<'_, '_>,
-    wanted: &SlowOutcome,
-    tree: &[u8],
-) -> Result<(), AllocError> {
-    counts.trees.note(
-        judge(heap, &goal.task, tree)? == Judgement::Tree
-            && agrees(book, goal, tree, Judgement::Tree),
-    );
-    for room in [tree.len(), tree.len().saturating_sub(1)] {
+    /// Asks with a budget and a buffer of so many bytes, and compares with what it comes to.
+    fn compare_ask(&mut self, settings: Settings, wanted: &SlowOutcome) -> Result<(), AllocError> {
+        let mut buffer = vec![in self.comparison.heap; UNTOUCHED; settings.room]?;
+        let restart = Restart::from(self.task.again);
+        let got = self
+            .book
+            .ask(self.bytes, restart, settings.budget, &mut buffer);
+        self.note_outcome(wanted, got.ok(), &buffer)
+    }
+
+    /// Whether the service judges bytes as the slow judge did.
+    fn agrees(&mut self, again: Again, bytes: &[u8], wanted: Judgement) -> bool {
+        let wanted = wanted.map_or_else(Verdict::from, |()| Verdict::Accepted);
+        self.book
+            .check(self.bytes, Restart::from(again), bytes)
+            .is_ok_and(|verdict| verdict == wanted)
+    }
+
+    /// Checks bytes near a tree, with each choice of restart.
+    fn compare_changed(&mut self, bytes: &[u8]) -> Result<(), AllocError> {
+        for again in [Again::Never, Again::Always] {
+            let wanted = judge(Task { again, ..self.task }, bytes)?;
+            let agreed = self.agrees(again, bytes, wanted);
+            let counts = &mut self.comparison.counts;
+            match wanted {
+                Ok(()) => counts.changed.note(agreed),
+                Err(_) => counts.spoilt.note(agreed),
+            }
+        }
+        Ok(())
+    }
+
+    /// Puts every other byte at each place of a tree in turn.
+    // By place: the changed bytes are another list.
+    fn change_each_byte(&mut self, tree: &[u8]) -> Result<(), AllocError> {
+        for (place, own) in tree.iter().enumerate() {
+            let mut bytes = Vec::from_slice(self.comparison.heap, tree)?;
+            for other in (0..=u8::MAX).filter(|other| other != own) {
+                if let Some(byte) = bytes.get_mut(place) {
+                    *byte = other;
+                }
+                self.compare_changed(&bytes)?;
+            }
+        }
+        Ok(())
+    }
+
+    /// Checks a tree that was found, and asks for it with just enough room and with one byte less.
+    fn compare_tree(&mut self, wanted: &SlowOutcome, tree: &[u8]) -> Result<(), AllocError> {
+        let judged = judge(self.task, tree)?;
+        let agreed = judged.is_ok() && self.agrees(self.task.again, tree, judged);
+        self.comparison.counts.trees.note(agreed);
+        for room in [tree.len(), tree.len().saturating_sub(1)] {
+            let budget = BUDGET;
+            self.compare_ask(Settings { budget, room }, wanted)?;
+        }
+        Ok(())
+    }
+
+    /// Asks the goal, with one query less than it needs too.
+    fn compare_asks(&mut self) -> Result<SlowOutcome, AllocError> {
+        let heap = self.comparison.heap;
+        let room = ROOM;
         let budget = BUDGET;
-        compare_ask(heap, counts, book, goal, Settings { budget, room }, wanted)?;
-    }
-    Ok(())
-}
-
-/// Asks a goal, with one query less than it needs too.
-fn compare_asks<K: Key + Written + Copy>(
-    heap: Global,
-    counts: &mut Counts,
-    book: &mut Sealed<'_, K>,
-    goal: &Goal<'_, '_>,
-) -> Result<SlowOutcome, AllocError> {
-    let wanted = decide(heap, &goal.task, BUDGET)?;
-    let room = ROOM;
-    let budget = BUDGET;
-    compare_ask(heap, counts, book, goal, Settings { budget, room }, &wanted)?;
-    if wanted.count > 1 {
-        let budget = wanted.count - 1;
-        let less = decide(heap, &goal.task, budget)?;
-        compare_ask(heap, counts, book, goal, Settings { budget, room }, &less)?;
-    }
-    Ok(wanted)
-}
-
-/// Compares all that is asked of a goal with one choice of restart.
-pub fn compare_goal<K: Key + Written + Copy>(
-    heap: Global,
-    counts: &mut Counts,
-    book: &mut Sealed<'_, K>,
-    goal: &Goal<'_, '_>,
-    changes: Changes,
-) -> Result<(), AllocError> {
-    let wanted = compare_asks(heap, counts, book, goal)?;
-    if let Found::Yes(tree) = &wanted.found {
-        compare_tree(heap, counts, book, goal, &wanted, tree)?;
-        for place in 0..changes.places(tree.len()) {
-            change_at(heap, counts, book, goal, tree, place)?;
+        let wanted = decide(heap, self.task, budget);
+        self.compare_ask(Settings { budget, room }, &wanted)?;
+        if wanted.count > 1 {
+            let budget = wanted.count - 1;
+            let less = decide(heap, self.task, budget);
+            self.compare_ask(Settings { budget, room }, &less)?;
         }
+        Ok(wanted)
     }
-    Ok(())
+
+    /// Compares all that is asked of the goal.
+    pub fn compare(&mut self, changes: Changes) -> Result<(), AllocError> {
+        let wanted = self.compare_asks()?;
+        if let Ok(Some(tree)) = &wanted.found {
+            self.compare_tree(&wanted, tree)?;
+            if changes == Changes::Made && tree.len() <= LONGEST_CHANGED {
+                self.change_each_byte(tree)?;
+            }
+        }
+        Ok(())
+    }
 }

@@ -1,100 +1,95 @@
 //! A case compared in each form.
-use crate::asking::{Changes, Goal, compare_goal};
+use crate::asking::{Asking, Changes};
 use crate::cases::Case;
 use crate::counts::Counts;
-use crate::forms::{Form, InCodes, InText};
-use crate::looking::{Pair, compare_looks};
-use crate::slow::Again;
-use keys::Key;
-use reader::{FeatureCode, Name, Written};
+use crate::forms::Form;
+use crate::looking::Pair;
+use crate::slow::{Again, Task};
 use service::{Draft, Sealed};
 use std::alloc::{AllocError, Global};
 
 /// The slots of a register: no case has more names.
 const SLOTS: usize = 8;
 
-/// The bytes of the book's rules.
-fn spelt<F: Form>(heap: Global, case: &Case, form: &F) -> Result<Vec<Vec<u8>>, AllocError> {
-    let mut rules = Vec::new(heap);
-    for number in case.in_book() {
-        if let Some(rule) = case.rule(*number) {
-            rules.push(form.spell(heap, &rule)?)?;
+/// Comparisons under way, and how those before came out.
+#[derive(Drop)]
+pub struct Comparison {
+    pub heap: Global,
+    pub counts: Counts,
+}
+
+impl Comparison {
+    /// None made yet.
+    pub fn new(heap: Global) -> Comparison {
+        Comparison {
+            heap,
+            counts: Counts::default(),
         }
     }
-    Ok(rules)
-}
 
-/// A sealed book of these rules: so many of them are added, the others supposed.
-fn sealed<'a, K: Key + Written + Copy>(
-    counts: &mut Counts,
-    slots: &'a mut [K],
-    rules: &[Vec<u8>],
-    added: usize,
-) -> Sealed<'a, K> {
-    let mut draft = Draft::new(slots);
-    for rule in rules.iter().take(added) {
-        counts.rules.note(draft.add(rule).is_ok());
+    /// The bytes of the book's rules.
+    fn spelt<K: Form>(&self, case: &Case) -> Result<Vec<Vec<u8>>, AllocError> {
+        let heap = self.heap;
+        case.in_book()
+            .iter()
+            .map(|rule| K::spell(heap, rule))
+            .try_collect(heap)
     }
-    let mut book = draft.seal();
-    for rule in rules.iter().skip(added) {
-        counts.rules.note(book.suppose(rule).is_ok());
-    }
-    book
-}
 
-/// Asks and checks the goal with each choice of restart.
-fn compare_questions<K: Key + Written + Copy>(
-    heap: Global,
-    counts: &mut Counts,
-    book: &mut Sealed<'_, K>,
-    case: &Case,
-    bytes: &[u8],
-    changes: Changes,
-) -> Result<(), AllocError> {
-    for again in [Again::Never, Again::Always] {
-        let task = case.task(again);
-        compare_goal(heap, counts, book, &Goal { bytes, task }, changes)?;
+    /// A sealed book of these rules: so many of them are added, the others supposed.
+    fn sealed<'s, K: Form>(
+        &mut self,
+        slots: &'s mut [K],
+        rules: &[Vec<u8>],
+        added: usize,
+    ) -> Sealed<'s, K> {
+        let mut draft = Draft::new(slots);
+        for rule in rules.iter().take(added) {
+            self.counts.rules.note(draft.add(rule).is_ok());
+        }
+        let mut book = draft.seal();
+        for rule in rules.iter().skip(added) {
+            self.counts.rules.note(book.suppose(rule).is_ok());
+        }
+        book
     }
-    Ok(())
-}
 
-/// Compares a case in text: asks, checks and looks at these charts.
-pub fn compare_in_text(
-    heap: Global,
-    counts: &mut Counts,
-    case: &Case,
-    added: usize,
-    changes: Changes,
-    pairs: &[Pair],
-) -> Result<(), AllocError> {
-    let rules = spelt(heap, case, &InText)?;
-    let mut slots = [Name::new(b""); SLOTS];
-    let mut book = sealed(counts, &mut slots, &rules, added);
-    if let Some(goal) = case.goal() {
-        let bytes = InText.spell(heap, &goal)?;
-        compare_questions(heap, counts, &mut book, case, &bytes, changes)?;
-        compare_looks(counts, &mut book, case, &bytes, pairs);
+    /// Asks and checks a goal with a choice of restart.
+    fn compare_question<K: Form>(
+        &mut self,
+        book: &mut Sealed<'_, K>,
+        bytes: &[u8],
+        task: Task<'_>,
+        changes: Changes,
+    ) -> Result<(), AllocError> {
+        let mut asking = Asking {
+            comparison: self,
+            book,
+            bytes,
+            task,
+        };
+        asking.compare(changes)
     }
-    Ok(())
-}
 
-/// Compares a case in codes: asks, and checks of what is found.
-pub fn compare_in_codes(
-    heap: Global,
-    counts: &mut Counts,
-    case: &Case,
-    added: usize,
-) -> Result<(), AllocError> {
-    let rules = spelt(heap, case, &InCodes)?;
-    let blank = FeatureCode {
-        class: 0,
-        feature: 0,
-    };
-    let mut slots = [blank; SLOTS];
-    let mut book = sealed(counts, &mut slots, &rules, added);
-    if let Some(goal) = case.goal() {
-        let bytes = InCodes.spell(heap, &goal)?;
-        compare_questions(heap, counts, &mut book, case, &bytes, Changes::LeftOut)?;
+    /// Compares a case in a form: asks and checks with each choice of restart, and looks at these charts.
+    pub fn compare_in<K: Form>(
+        &mut self,
+        case: &Case,
+        added: usize,
+        changes: Changes,
+        pairs: &[Pair],
+    ) -> Result<(), AllocError> {
+        let rules = self.spelt::<K>(case)?;
+        let mut slots = vec![in self.heap; K::blank(); SLOTS]?;
+        let mut book = self.sealed(&mut slots, &rules, added);
+        let Some(goal) = case.goal() else {
+            return Ok(());
+        };
+        let bytes = K::spell(self.heap, goal)?;
+        for again in [Again::Never, Again::Always] {
+            self.compare_question(&mut book, &bytes, case.task(goal, again), changes)?;
+        }
+        self.compare_looks(&mut book, case, goal, &bytes, pairs);
+        Ok(())
     }
-    Ok(())
 }

@@ -1,16 +1,14 @@
 //! How the comparisons come out.
+use std::fmt;
 
 /// How many comparisons of a kind were made, and how many of them did not agree.
-#[derive(Clone, Copy)]
+#[derive(Clone, Copy, Default)]
 pub struct Count {
-    pub made: u64,
-    pub apart: u64,
+    made: u64,
+    apart: u64,
 }
 
 impl Count {
-    /// None made yet.
-    pub const NONE: Count = Count { made: 0, apart: 0 };
-
     /// One more comparison.
     pub fn note(&mut self, agreed: bool) {
         self.made = self.made.saturating_add(1);
@@ -20,8 +18,19 @@ impl Count {
     }
 }
 
+impl fmt::Display for Count {
+    fn fmt<W: fmt::Write>(&self, f: &mut fmt::Formatter<W>) -> fmt::Result {
+        let Count { made, apart } = *self;
+        if apart == 0 {
+            write!(f, "{made} agreed")
+        } else {
+            write!(f, "{apart} of {made} did NOT agree")
+        }
+    }
+}
+
 /// The comparisons, kind by kind.
-#[derive(Clone, Copy)]
+#[derive(Clone, Copy, Default)]
 pub struct Counts {
     /// Books with a goal.
     pub books: usize,
@@ -44,20 +53,19 @@ pub struct Counts {
     pub unlawful: Count,
 }
 
-impl Counts {
-    /// None made yet.
-    pub const NONE: Counts = Counts {
-        books: 0,
-        rules: Count::NONE,
-        yes: Count::NONE,
-        no: Count::NONE,
-        spent: Count::NONE,
-        long: Count::NONE,
-        trees: Count::NONE,
-        changed: Count::NONE,
-        spoilt: Count::NONE,
-        looks: Count::NONE,
-        filled: Count::NONE,
-        unlawful: Count::NONE,
-    };
+impl fmt::Display for Counts {
+    fn fmt<W: fmt::Write>(&self, f: &mut fmt::Formatter<W>) -> fmt::Result {
+        writeln!(f, "books: {}", self.books)?;
+        writeln!(f, "rules taken: {}", self.rules)?;
+        writeln!(f, "yes: {}", self.yes)?;
+        writeln!(f, "no: {}", self.no)?;
+        writeln!(f, "spent: {}", self.spent)?;
+        writeln!(f, "long: {}", self.long)?;
+        writeln!(f, "trees checked: {}", self.trees)?;
+        writeln!(f, "changed trees that are trees: {}", self.changed)?;
+        writeln!(f, "changed trees that are none: {}", self.spoilt)?;
+        writeln!(f, "looks: {}", self.looks)?;
+        writeln!(f, "charts filled: {}", self.filled)?;
+        write!(f, "charts refused: {}", self.unlawful)
+    }
 }

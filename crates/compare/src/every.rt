@@ -1,71 +1,94 @@
 //! Every book of a number of nodes.
 use crate::nodes::Node;
 
-/// Where a node may change next, and what it changes to.
-#[derive(Clone, Copy)]
-struct Change {
-    place: usize,
-    value: u8,
+/// A part of the nodes of a book that goes through all its values. The first node has the least, and no node has more than its bound.
+pub trait Part {
+    /// The least value, and the bound of the first node.
+    const LEAST: u8;
+
+    /// The part of a node.
+    fn of(node: &Node) -> u8;
+
+    /// The node with another value.
+    fn with(node: Node, value: u8) -> Node;
+
+    /// The bound of the node behind one with this bound and value.
+    fn bound_behind(bound: u8, value: u8) -> u8;
 }
 
-/// The last node that may lie one deeper: it is not below the node in front of it.
-fn last_to_sink(nodes: &[Node]) -> Option<Change> {
-    let mut change = None;
-    let mut before = 0;
-    for (place, node) in nodes.iter().enumerate() {
-        if node.depth <= before {
-            let value = node.depth.saturating_add(1);
-            change = Some(Change { place, value });
-        }
-        before = node.depth;
+/// How the nodes lie. As no node is more than one deeper than the one in front of it, there are 1, 2, 5, 14, 42 and 132 ways for 1 to 6
+/// nodes.
+pub enum Depth {}
+
+impl Part for Depth {
+    const LEAST: u8 = 1;
+
+    fn of(node: &Node) -> u8 {
+        node.depth
     }
-    change
-}
 
-/// The last node that may have the next head: its own is not larger than all in front of it.
-fn last_to_rename(nodes: &[Node]) -> Option<Change> {
-    let mut change = None;
-    let mut largest = None;
-    for (place, node) in nodes.iter().enumerate() {
-        if let Some(head) = largest {
-            if node.head <= head {
-                let value = node.head.saturating_add(1);
-                change = Some(Change { place, value });
-            }
-        }
-        largest = Some(node.head.max(largest.unwrap_or(0)));
+    fn with(node: Node, depth: u8) -> Node {
+        Node { depth, ..node }
     }
-    change
+
+    fn bound_behind(_bound: u8, depth: u8) -> u8 {
+        depth.saturating_add(1)
+    }
 }
 
-/// Goes on to the next way in which the nodes can lie, and tells whether there is one; at first all have depth 1. As no node is more
-/// than one deeper than the one in front of it, there are 1, 2, 5, 14, 42 and 132 ways for 1 to 6 nodes.
-pub fn sink(nodes: &mut [Node]) -> bool {
-    let Some(change) = last_to_sink(nodes) else {
+/// How the nodes are named. As heads are numbered by first appearance, there are 1, 2, 5, 15, 52 and 203 ways for 1 to 6 nodes.
+pub enum Head {}
+
+impl Part for Head {
+    const LEAST: u8 = 0;
+
+    fn of(node: &Node) -> u8 {
+        node.head
+    }
+
+    fn with(node: Node, head: u8) -> Node {
+        Node { head, ..node }
+    }
+
+    fn bound_behind(bound: u8, head: u8) -> u8 {
+        bound.max(head.saturating_add(1))
+    }
+}
+
+/// The place of the last node that is below its bound.
+// A loop: a chain would need scan, enumerate, filter and last.
+fn last_to_rise<P: Part>(nodes: &[Node]) -> Option<usize> {
+    let mut last = None;
+    let mut bound = P::LEAST;
+    for (place, node) in nodes.iter().enumerate() {
+        let value = P::of(node);
+        if value < bound {
+            last = Some(place);
+        }
+        bound = P::bound_behind(bound, value);
+    }
+    last
+}
+
+/// Puts a part of all nodes back to the least.
+pub fn put_back<P: Part>(nodes: &mut [Node]) {
+    for node in nodes {
+        *node = P::with(*node, P::LEAST);
+    }
+}
+
+/// Goes on to the next values of a part, and tells whether there are any; the first are the least.
+// A `bool`: the nodes are changed in place, and an Option would have nothing to hold.
+pub fn go_on<P: Part>(nodes: &mut [Node]) -> bool {
+    let Some(place) = last_to_rise::<P>(nodes) else {
         return false;
     };
-    for (place, node) in nodes.iter_mut().enumerate() {
-        if place == change.place {
-            node.depth = change.value;
-        } else if place > change.place {
-            node.depth = 1;
-        }
-    }
-    true
-}
-
-/// Goes on to the next way in which the nodes can be named, and tells whether there is one; at first all heads are 0. As heads are
-/// numbered by first appearance, there are 1, 2, 5, 15, 52 and 203 ways for 1 to 6 nodes.
-pub fn rename(nodes: &mut [Node]) -> bool {
-    let Some(change) = last_to_rename(nodes) else {
-        return false;
-    };
-    for (place, node) in nodes.iter_mut().enumerate() {
-        if place == change.place {
-            node.head = change.value;
-        } else if place > change.place {
-            node.head = 0;
-        }
+    if let Some((node, behind)) = nodes
+        .get_mut(place..)
+        .and_then(|changed| changed.split_first_mut())
+    {
+        *node = P::with(*node, P::of(node).saturating_add(1));
+        put_back::<P>(behind);
     }
     true
 }

@@ -1,89 +1,85 @@
 //! A slow judge of tree bytes.
 use crate::rules::Rule;
-use crate::sets::with_all;
-use crate::slow::{Again, Task};
-use std::alloc::{AllocError, Global};
+use crate::sets::with_rules;
+use crate::slow::{AGAIN, Again, Query, RULE, Task};
+use std::alloc::AllocError;
 
-/// Where a tree ends, or where its bytes are none.
-#[derive(Clone, Copy)]
-enum Reading {
-    Ends(usize),
-    Fails(usize),
-}
-
-/// Whether bytes are one whole tree, or the place at which they are not.
+/// The place at which bytes are no tree.
+// Not the `Verdict` of the service: the slow judge shares no type with it.
 #[derive(Clone, Copy, PartialEq)]
-pub enum Judgement {
-    Tree,
-    NoTree { place: usize },
+pub struct NoTree {
+    pub place: usize,
 }
 
-/// Reads the tree of a name from a place on. `left` falls with each kind byte.
-#[cycle(read_read_rule)]
-fn read(
-    heap: Global,
-    task: &Task<'_>,
-    bytes: &[u8],
-    place: usize,
-    name: u8,
-    set: &[u8],
-    left: usize,
-) -> Result<Reading, AllocError> {
-    if left == 0 {
-        return Ok(Reading::Fails(place));
-    }
-    let next = place.saturating_add(1);
-    match bytes.get(place).copied() {
-        Some(1) => read_rule(heap, task, bytes, next, name, set, left - 1),
-        Some(2) if task.again == Again::Always => {
-            read(heap, task, bytes, next, task.goal, set, left - 1)
-        }
-        _ => Ok(Reading::Fails(place)),
+/// Whether bytes are one whole tree.
+pub type Judgement = Result<(), NoTree>;
+
+/// Why no tree is read.
+// Not the `Stop` of the slow prover: a place is no reason to stop a search, so each has its own.
+#[derive(Drop)]
+enum Misfit {
+    At(usize),
+    Memory(AllocError),
+}
+
+impl From<AllocError> for Misfit {
+    fn from(error: AllocError) -> Misfit {
+        Misfit::Memory(error)
     }
 }
 
-/// The rule of a number byte, where it is in force and has this head.
-fn rule_of<'t>(task: &Task<'t>, byte: Option<&u8>, name: u8, set: &[u8]) -> Option<Rule<'t>> {
-    let number = *byte?;
-    if !set.contains(&number) {
-        return None;
-    }
-    let rule = task.rules.find(number)?;
-    if rule.head == name { Some(rule) } else { None }
+/// Bytes that are read as a tree of a task.
+#[derive(Clone, Copy)]
+struct Reading<'t> {
+    task: Task<'t>,
+    bytes: &'t [u8],
 }
 
-/// Reads the number byte of a rule, and the trees of its bodies.
-#[cycle(read_read_rule)]
-fn read_rule(
-    heap: Global,
-    task: &Task<'_>,
-    bytes: &[u8],
-    place: usize,
-    name: u8,
-    set: &[u8],
-    left: usize,
-) -> Result<Reading, AllocError> {
-    let Some(rule) = rule_of(task, bytes.get(place), name, set) else {
-        return Ok(Reading::Fails(place));
-    };
-    let mut end = place.saturating_add(1);
-    for number in &rule.bodies.numbers(heap)? {
-        if let Some(body) = task.rules.find(*number) {
-            let wider = with_all(heap, set, &body.bodies.numbers(heap)?)?;
-            match read(heap, task, bytes, end, body.head, &wider, left)? {
-                Reading::Ends(place) => end = place,
-                fails => return Ok(fails),
+impl<'t> Reading<'t> {
+    /// Where the tree of a name ends that begins at a place. `left` falls with each kind byte.
+    #[cycle(read_read_rule)]
+    fn read(&self, place: usize, query: Query<'_>, left: usize) -> Result<usize, Misfit> {
+        let left = left.checked_sub(1).ok_or(Misfit::At(place))?;
+        let next = place.saturating_add(1);
+        match self.bytes.get(place).copied() {
+            Some(RULE) => self.read_rule(next, query, left),
+            Some(AGAIN) if self.task.again == Again::Always => {
+                let name = self.task.goal;
+                self.read(next, Query { name, ..query }, left)
             }
+            _ => Err(Misfit::At(place)),
         }
     }
-    Ok(Reading::Ends(end))
+
+    /// The rule of the number byte at a place, where it serves a query.
+    fn rule_at(&self, place: usize, query: Query<'_>) -> Option<&'t Rule> {
+        let number = self.bytes.get(place)?;
+        self.task.serving(*number, query)
+    }
+
+    /// Where the trees of the bodies end of the rule whose number byte stands at a place.
+    #[cycle(read_read_rule)]
+    fn read_rule(&self, place: usize, query: Query<'_>, left: usize) -> Result<usize, Misfit> {
+        let rule = self.rule_at(place, query).ok_or(Misfit::At(place))?;
+        let mut end = place.saturating_add(1);
+        for body in &rule.bodies {
+            let query = Query {
+                name: body.head,
+                set: &with_rules(query.set, &body.bodies)?,
+            };
+            end = self.read(end, query, left)?;
+        }
+        Ok(end)
+    }
 }
 
 /// Judges bytes as a tree of the goal.
-pub fn judge(heap: Global, task: &Task<'_>, bytes: &[u8]) -> Result<Judgement, AllocError> {
+pub fn judge(task: Task<'_>, bytes: &[u8]) -> Result<Judgement, AllocError> {
+    let reading = Reading { task, bytes };
     let left = bytes.len().saturating_add(1);
-    match read(heap, task, bytes, 0, task.goal, task.in_force, left)? {
-        Reading::Ends(place) if place == bytes.len() => Ok(Judgement::Tree),
-        Reading::Ends(place) | Reading::Fails(place) => Ok(Judgement::NoTree { place }),
+    match reading.read(0, task.first_query(), left) {
+        Ok(end) if end == bytes.len() => Ok(Ok(())),
+        Ok(place) | Err(Misfit::At(place)) => Ok(Err(NoTree { place })),
+        Err(Misfit::Memory(error)) => Err(error),
     }
 }

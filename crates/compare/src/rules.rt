@@ -1,92 +1,47 @@
 //! Rules as trees.
-use std::alloc::{AllocError, Global};
+use std::fmt;
 
-/// No rules, or a rule and those behind it. A rule has the number of its record, the number of its head, and its bodies.
+/// A rule or a body of one: the number of its record, the number of its head, and its bodies.
 #[derive(Drop)]
-pub enum Rules {
-    None,
-    Then {
-        number: u8,
-        head: u8,
-        bodies: Box<Rules>,
-        rest: Box<Rules>,
-    },
-}
-
-/// A rule of a list.
-#[derive(Clone, Copy)]
-pub struct Rule<'r> {
+pub struct Rule {
     pub number: u8,
     pub head: u8,
-    pub bodies: &'r Rules,
+    pub bodies: Vec<Rule>,
 }
 
-impl Rules {
-    /// Whether there are none.
-    pub fn is_none(&self) -> bool {
-        match self {
-            Rules::None => true,
-            Rules::Then { .. } => false,
+/// The rule of a record, however deep it lies.
+// A loop, since the closure of `find_map` is not shown callable where the recursion runs through it.
+pub fn find(rules: &[Rule], wanted: u8) -> Option<&Rule> {
+    for rule in rules {
+        if rule.number == wanted {
+            return Some(rule);
+        }
+        let found = find(&rule.bodies, wanted);
+        if found.is_some() {
+            return found;
         }
     }
+    None
+}
 
-    /// The first rule.
-    pub fn first(&self) -> Option<Rule<'_>> {
-        match self {
-            Rules::None => None,
-            Rules::Then {
-                number,
-                head,
-                bodies,
-                ..
-            } => Some(Rule {
-                number: *number,
-                head: *head,
-                bodies,
-            }),
-        }
-    }
+/// The letter of a head.
+fn letter(head: u8) -> char {
+    char::from(b'a' + head % 26)
+}
 
-    /// The rule of a record, however deep it lies.
-    pub fn find(&self, wanted: u8) -> Option<Rule<'_>> {
-        match self {
-            Rules::None => None,
-            Rules::Then {
-                number,
-                head,
-                bodies,
-                rest,
-            } => {
-                if *number == wanted {
-                    return Some(Rule {
-                        number: *number,
-                        head: *head,
-                        bodies,
-                    });
-                }
-                match bodies.find(wanted) {
-                    Some(rule) => Some(rule),
-                    None => rest.find(wanted),
-                }
+/// In text, with commas between the bodies, and brackets round those that have bodies of their own.
+impl fmt::Display for Rule {
+    fn fmt<W: fmt::Write>(&self, f: &mut fmt::Formatter<W>) -> fmt::Result {
+        write!(f, "{}", letter(self.head))?;
+        let mut between = " if ";
+        for body in &self.bodies {
+            if body.bodies.is_empty() {
+                write!(f, "{between}{body}")?;
+            } else {
+                write!(f, "{between}({body})")?;
             }
+            between = ", ";
         }
-    }
-
-    /// Puts the numbers of the listed rules behind others.
-    fn list(&self, numbers: &mut Vec<u8>) -> Result<(), AllocError> {
-        match self {
-            Rules::None => Ok(()),
-            Rules::Then { number, rest, .. } => {
-                numbers.push(*number)?;
-                rest.list(numbers)
-            }
-        }
-    }
-
-    /// The numbers of the listed rules.
-    pub fn numbers(&self, heap: Global) -> Result<Vec<u8>, AllocError> {
-        let mut numbers = Vec::new(heap);
-        self.list(&mut numbers)?;
-        Ok(numbers)
+        Ok(())
     }
 }

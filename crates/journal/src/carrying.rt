@@ -6,31 +6,18 @@ use reader::Name;
 use service::{Answer, Call, replay};
 use std::alloc::{AllocError, Global};
 
-/// The calls that the lines make, in their order.
-fn calls<'j>(
+/// Carries the calls of a journal out, in their order, from an empty draft of 64 names, and gives their answers; the trees found stand
+/// in `found`, that of each ask in its own room.
+pub fn carry_out(
     heap: Global,
-    entries: &[Entry<'j>],
-    trees: &'j [u8],
-) -> Result<Vec<Call<'j>>, AllocError> {
-    let mut calls = Vec::new(heap);
-    for entry in entries {
-        if let Some(call) = entry.call(trees) {
-            calls.push(call)?;
-        }
-    }
-    Ok(calls)
-}
-
-/// Carries the calls out from an empty draft of 64 names, and gives their answers; the trees found stand in `found`, each in the part of
-/// its ask.
-pub fn carry_out<'j>(
-    heap: Global,
-    entries: &[Entry<'j>],
-    trees: &'j [u8],
+    entries: &[Entry<'_>],
     charts: &[AnyChart],
     found: &mut [u8],
 ) -> Result<Vec<Answer>, AllocError> {
-    let calls = calls(heap, entries, trees)?;
+    let calls: Vec<Call<'_>> = entries
+        .iter()
+        .filter_map(|entry| entry.call())
+        .collect(heap)?;
     let mut answers = vec![in heap; Answer::NotTaken; calls.len()]?;
     let mut slots = [Name::new(&[]); NAMES];
     replay(&mut slots, &calls, charts, found, &mut answers);

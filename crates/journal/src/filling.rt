@@ -6,7 +6,7 @@ use std::alloc::Global;
 /// Fills a chart as the words say: `single W`, `line N BYTES` or `map F/N F/N ..`. Nothing where they say none, or where memory has no
 /// room for the lists.
 pub fn read_chart(heap: Global, words: &[u8]) -> Option<Result<AnyChart, ChartFault>> {
-    if let b"map" = words {
+    if words == b"map".as_slice() {
         return Some(fill_map(&[], &[]));
     }
     let Split { word, rest } = split_once(words, b' ')?;
@@ -31,41 +31,21 @@ fn read_line(heap: Global, words: &[u8]) -> Option<Result<AnyChart, ChartFault>>
     let size = number(word)?;
     let first = hex_bytes(heap, rest)?;
     let mut chart = Line::new();
-    match chart.fill(size as usize, &first) {
-        Ok(()) => Some(Ok(AnyChart::Line(chart))),
-        Err(fault) => Some(Err(fault)),
-    }
-}
-
-/// The followers and the names of each release.
-#[derive(Drop)]
-struct Releases {
-    followers: Vec<u64>,
-    names: Vec<u64>,
-}
-
-impl Releases {
-    /// Puts the release `F/N` behind the others.
-    fn read(&mut self, word: &[u8]) -> Option<()> {
-        let Split { word, rest } = split_once(word, b'/')?;
-        self.followers.push(hex_word(word)?).ok()?;
-        self.names.push(hex_word(rest)?).ok()
-    }
+    let filled = chart.fill(size as usize, &first);
+    Some(filled.map(|()| AnyChart::Line(chart)))
 }
 
 /// `F/N F/N ..`
 fn read_map(heap: Global, words: &[u8]) -> Option<Result<AnyChart, ChartFault>> {
-    let mut releases = Releases {
-        followers: Vec::new(heap),
-        names: Vec::new(heap),
-    };
-    let mut left = words;
-    while let Some(Split { word, rest }) = split_once(left, b' ') {
-        releases.read(word)?;
-        left = rest;
+    // Two lists, as `Map::fill` takes them.
+    let mut followers = Vec::new(heap);
+    let mut names = Vec::new(heap);
+    for release in words.split(|byte| *byte == b' ') {
+        let Split { word, rest } = split_once(release, b'/')?;
+        followers.push(hex_word(word)?).ok()?;
+        names.push(hex_word(rest)?).ok()?;
     }
-    releases.read(left)?;
-    Some(fill_map(&releases.followers, &releases.names))
+    Some(fill_map(&followers, &names))
 }
 
 /// The map of these lists.

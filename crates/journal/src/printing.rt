@@ -5,6 +5,7 @@ use service::{Answer, Fault, Layer};
 use std::{fmt, io};
 
 /// Bytes in lower-case hexadecimal.
+// `hex::encode` would need memory for the digits.
 #[derive(Clone, Copy)]
 struct Hex<'b>(&'b [u8]);
 
@@ -17,18 +18,6 @@ impl fmt::Display for Hex<'_> {
     }
 }
 
-/// What a layer is called.
-fn layer_name(layer: Layer) -> &'static str {
-    match layer {
-        Layer::Reader => "reader",
-        Layer::Register => "register",
-        Layer::Book => "book",
-        Layer::Service => "service",
-        Layer::Chart => "chart",
-        Layer::Console => "console",
-    }
-}
-
 /// What a refusal tells.
 #[derive(Clone, Copy)]
 struct Refusal {
@@ -37,18 +26,20 @@ struct Refusal {
     layer: Layer,
 }
 
-impl Refusal {
-    /// A call was refused.
-    fn of_call(fault: Fault) -> Refusal {
+/// A call was refused.
+impl From<Fault> for Refusal {
+    fn from(fault: Fault) -> Refusal {
         Refusal {
             number: fault.number(),
             place: fault.place(),
             layer: fault.layer(),
         }
     }
+}
 
-    /// A chart was not filled.
-    fn of_chart(fault: ChartFault) -> Refusal {
+/// A chart was not filled.
+impl From<ChartFault> for Refusal {
+    fn from(fault: ChartFault) -> Refusal {
         Refusal {
             number: fault.number(),
             place: fault.place(),
@@ -59,9 +50,11 @@ impl Refusal {
 
 impl fmt::Display for Refusal {
     fn fmt<W: fmt::Write>(&self, f: &mut fmt::Formatter<W>) -> fmt::Result {
-        let number = self.number;
-        let place = self.place;
-        let layer = layer_name(self.layer);
+        let Refusal {
+            number,
+            place,
+            layer,
+        } = *self;
         write!(f, "refused {number} {place} {layer}")
     }
 }
@@ -82,7 +75,7 @@ impl fmt::Display for Told<'_> {
     fn fmt<W: fmt::Write>(&self, f: &mut fmt::Formatter<W>) -> fmt::Result {
         match self.answer {
             Answer::Done => write!(f, "done"),
-            Answer::Refused(fault) => Refusal::of_call(fault).fmt(f),
+            Answer::Refused(fault) => Refusal::from(fault).fmt(f),
             Answer::Yes { count, length } => {
                 let tree = Hex(self.buffer.get(0..length).unwrap_or(self.buffer));
                 write!(f, "yes {count} {length} {tree}")
@@ -100,27 +93,26 @@ impl fmt::Display for Told<'_> {
     }
 }
 
-/// Prints a line for each entry: a call's answer is the next of the answers, and the tree it found lies in its own part of `found`.
+/// Prints a line for each entry: a call's answer is the next of the answers, and the tree it found lies in the next room.
 pub fn print(
     rt: &impl Print,
     entries: &[Entry<'_>],
     answers: &[Answer],
     found: &[u8],
 ) -> io::Result<()> {
-    let mut left = answers;
+    let mut answers = answers.iter().copied();
+    let mut found = found;
     for entry in entries {
-        match *entry {
-            Entry::Filled => println!(rt; "done")?,
-            Entry::Unfilled(fault) => println!(rt; "{}", Refusal::of_chart(fault))?,
+        match entry {
+            Entry::Chart(Ok(())) => println!(rt; "done")?,
+            Entry::Chart(Err(fault)) => println!(rt; "{}", Refusal::from(*fault))?,
             Entry::Unread => println!(rt; "unread")?,
-            _ => {
-                if let [answer, rest @ ..] = left {
-                    let told = Told {
-                        answer: *answer,
-                        buffer: entry.room().of(found),
-                    };
-                    println!(rt; "{told}")?;
-                    left = rest;
+            Entry::Call(_) | Entry::Check { .. } => {
+                let room = entry.call().map_or(0, |call| call.room());
+                let (buffer, behind) = found.split_at_checked(room).unwrap_or((found, &[]));
+                found = behind;
+                if let Some(answer) = answers.next() {
+                    println!(rt; "{}", Told { answer, buffer })?;
                 }
             }
         }

@@ -2,7 +2,8 @@
 use prover::{Outcome, Verdict};
 use service::{Fault, Layer};
 
-/// What a call answers.
+/// What a call answers. The cases of `Outcome` and `Verdict` stand flat, so that each expected answer is one literal.
+// Not the answer of the service either: a refusal is told by number and place, worked out by hand.
 #[derive(Clone, Copy, PartialEq)]
 pub enum Answer {
     Done,
@@ -17,53 +18,68 @@ pub enum Answer {
     Astray { number: u8 },
 }
 
-/// Whether the layer is the one of the number.
-fn is_layer_of(layer: Layer, number: u8) -> bool {
-    match layer {
-        Layer::Reader => number >= 1 && number <= 5,
-        Layer::Register => number == 11,
-        Layer::Book => number == 21 || number == 30 || number == 31,
-        Layer::Service => number >= 32 && number <= 34,
-        Layer::Chart | Layer::Console => false,
+impl Answer {
+    /// No number left for the key at this place.
+    pub fn no_number(place: usize) -> Answer {
+        Answer::Refused { number: 11, place }
     }
 }
 
-fn of_fault(fault: Fault) -> Answer {
-    let number = fault.number();
-    if is_layer_of(fault.layer(), number) {
-        Answer::Refused {
-            number,
-            place: fault.place(),
+/// The layer whose refusal has this number.
+fn layer_of(number: u8) -> Option<Layer> {
+    match number {
+        1..=5 => Some(Layer::Reader),
+        11 => Some(Layer::Register),
+        21 | 30 | 31 => Some(Layer::Book),
+        32..=34 => Some(Layer::Service),
+        _ => None,
+    }
+}
+
+impl From<Fault> for Answer {
+    fn from(fault: Fault) -> Answer {
+        let number = fault.number();
+        if layer_of(number) == Some(fault.layer()) {
+            let place = fault.place();
+            Answer::Refused { number, place }
+        } else {
+            Answer::Astray { number }
         }
-    } else {
-        Answer::Astray { number }
     }
 }
 
 /// The answer of a call that only changes the book.
-pub fn told(res: Result<(), Fault>) -> Answer {
-    match res {
-        Ok(()) => Answer::Done,
-        Err(fault) => of_fault(fault),
+impl From<()> for Answer {
+    fn from(_done: ()) -> Answer {
+        Answer::Done
     }
 }
 
 /// The answer of an ask.
-pub fn asked(res: Result<Outcome, Fault>) -> Answer {
-    match res {
-        Ok(Outcome::Yes { count, len }) => Answer::Yes { count, len },
-        Ok(Outcome::No { count }) => Answer::No { count },
-        Ok(Outcome::Spent { count }) => Answer::Spent { count },
-        Ok(Outcome::Long { count, len }) => Answer::Long { count, len },
-        Err(fault) => of_fault(fault),
+impl From<Outcome> for Answer {
+    fn from(outcome: Outcome) -> Answer {
+        match outcome {
+            Outcome::Yes { count, len } => Answer::Yes { count, len },
+            Outcome::No { count } => Answer::No { count },
+            Outcome::Spent { count } => Answer::Spent { count },
+            Outcome::Long { count, len } => Answer::Long { count, len },
+        }
     }
 }
 
 /// The answer of a check.
-pub fn checked(res: Result<Verdict, Fault>) -> Answer {
-    match res {
-        Ok(Verdict::Accepted) => Answer::Accepted,
-        Ok(Verdict::Rejected { place }) => Answer::Rejected { place },
-        Err(fault) => of_fault(fault),
+impl From<Verdict> for Answer {
+    fn from(verdict: Verdict) -> Answer {
+        match verdict {
+            Verdict::Accepted => Answer::Accepted,
+            Verdict::Rejected { place } => Answer::Rejected { place },
+        }
+    }
+}
+
+/// The answer of a call that may refuse.
+impl<T: Into<Answer>> From<Result<T, Fault>> for Answer {
+    fn from(res: Result<T, Fault>) -> Answer {
+        res.map_or_else(Answer::from, T::into)
     }
 }

@@ -1,15 +1,10 @@
 //! Small books whose answers, counts and trees were worked out by hand.
-use crate::answer::{Answer, asked};
-use crate::books::sealed;
-use crate::buffer::{UNTOUCHED, expect_buffer};
+use crate::answer::Answer;
 use crate::tally::Tally;
-use keys::Key;
+use crate::trial::{BookTrial, Question, no_names};
 use prover::Restart;
-use reader::{Name, Written};
-use service::Sealed;
-
-/// The budget where no other is of interest.
-const AMPLE: u32 = 1_000;
+use reader::Name;
+use std::alloc::{AllocError, Global};
 
 /// A question to a book, and what it comes to, without restart and with it. Where both find a tree, it is the same one.
 #[derive(Clone, Copy)]
@@ -21,6 +16,42 @@ pub struct Example<'e> {
     pub tree: &'e [u8],
 }
 
+/// Restart goes on from the present set.
+pub const RESTART: Example<'static> = Example {
+    rules: &[b"a if (b if a)"],
+    goal: b"a",
+    forbidden: Answer::No { count: 2 },
+    allowed: Answer::Yes { count: 3, len: 5 },
+    tree: &[1, 2, 2, 1, 0],
+};
+
+/// Restart also where the name heads a rule.
+pub const RESTART_AT_HEAD: Example<'static> = Example {
+    rules: &[b"b if b", b"a if (b if a)"],
+    goal: b"a",
+    forbidden: Answer::No { count: 2 },
+    allowed: Answer::Yes { count: 3, len: 5 },
+    tree: &[1, 4, 2, 1, 2],
+};
+
+/// The same name from a larger set is another query.
+pub const LARGER_SET: Example<'static> = Example {
+    rules: &[b"n if (n if a)"],
+    goal: b"n if (n if a)",
+    forbidden: Answer::Yes { count: 3, len: 6 },
+    allowed: Answer::Yes { count: 3, len: 6 },
+    tree: &[1, 2, 1, 4, 1, 0],
+};
+
+/// The goal's bodies are in force.
+pub const GOAL_WITH_BODIES: Example<'static> = Example {
+    rules: &[],
+    goal: b"a if b, a",
+    forbidden: Answer::Yes { count: 1, len: 2 },
+    allowed: Answer::Yes { count: 1, len: 2 },
+    tree: &[1, 1],
+};
+
 const EXAMPLES: &[Example<'static>] = &[
     // A name that no rule has as its head.
     Example {
@@ -30,14 +61,7 @@ const EXAMPLES: &[Example<'static>] = &[
         allowed: Answer::No { count: 1 },
         tree: &[],
     },
-    // Restart goes on from the present set.
-    Example {
-        rules: &[b"a if (b if a)"],
-        goal: b"a",
-        forbidden: Answer::No { count: 2 },
-        allowed: Answer::Yes { count: 3, len: 5 },
-        tree: &[1, 2, 2, 1, 0],
-    },
+    RESTART,
     // A barred query is not counted.
     Example {
         rules: &[b"q if q"],
@@ -46,22 +70,8 @@ const EXAMPLES: &[Example<'static>] = &[
         allowed: Answer::No { count: 1 },
         tree: &[],
     },
-    // Restart also where the name heads a rule.
-    Example {
-        rules: &[b"b if b", b"a if (b if a)"],
-        goal: b"a",
-        forbidden: Answer::No { count: 2 },
-        allowed: Answer::Yes { count: 3, len: 5 },
-        tree: &[1, 4, 2, 1, 2],
-    },
-    // The same name from a larger set is another query.
-    Example {
-        rules: &[b"n if (n if a)"],
-        goal: b"n if (n if a)",
-        forbidden: Answer::Yes { count: 3, len: 6 },
-        allowed: Answer::Yes { count: 3, len: 6 },
-        tree: &[1, 2, 1, 4, 1, 0],
-    },
+    RESTART_AT_HEAD,
+    LARGER_SET,
     // What one body supposes is not there for the next.
     Example {
         rules: &[b"c if (a if a), a"],
@@ -70,56 +80,33 @@ const EXAMPLES: &[Example<'static>] = &[
         allowed: Answer::No { count: 3 },
         tree: &[],
     },
-    // The goal's bodies are in force.
-    Example {
-        rules: &[],
-        goal: b"a if b, a",
-        forbidden: Answer::Yes { count: 1, len: 2 },
-        allowed: Answer::Yes { count: 1, len: 2 },
-        tree: &[1, 1],
-    },
+    GOAL_WITH_BODIES,
 ];
 
-/// Asks a goal, and compares the answer and the buffer.
-pub fn expect_ask<K: Key + Written + Copy>(
-    tally: &mut Tally,
-    book: &mut Sealed<'_, K>,
-    goal: &[u8],
-    restart: Restart,
-    answer: Answer,
-    tree: &[u8],
-) {
-    let mut buffer = [UNTOUCHED; 72];
-    tally.expect(asked(book.ask(goal, restart, AMPLE, &mut buffer)), answer);
-    expect_buffer(tally, &buffer, answer, tree);
-}
+impl Example<'_> {
+    /// Asks the goal of a book of the rules, without restart and with it.
+    pub fn expect(&self, trial: &mut BookTrial<'_, Name>) -> Result<(), AllocError> {
+        let forbidden = Question::ample(self.goal, Restart::Forbidden);
+        trial.expect_ask(&forbidden, self.forbidden, self.tree)?;
+        let allowed = Question::ample(self.goal, Restart::Allowed);
+        trial.expect_ask(&allowed, self.allowed, self.tree)
+    }
 
-/// Asks the goal of an example, without restart and with it.
-pub fn expect_example<K: Key + Written + Copy>(
-    tally: &mut Tally,
-    book: &mut Sealed<'_, K>,
-    example: &Example<'_>,
-) {
-    let goal = example.goal;
-    let tree = example.tree;
-    expect_ask(
-        tally,
-        book,
-        goal,
-        Restart::Forbidden,
-        example.forbidden,
-        tree,
-    );
-    expect_ask(tally, book, goal, Restart::Allowed, example.allowed, tree);
+    /// The example over a book of its own.
+    fn carry_out(&self, heap: Global) -> Result<Tally, AllocError> {
+        let mut slots = no_names::<8>();
+        let mut trial = BookTrial::new(heap, &mut slots, self.rules);
+        self.expect(&mut trial)?;
+        Ok(trial.tally)
+    }
 }
 
 /// Every example, over a book of its own.
-pub fn examples() -> Tally {
+// The sum is taken as in `trees`: four lines alike are not worth a closure.
+pub fn examples(heap: Global) -> Result<Tally, AllocError> {
     let mut tally = Tally::new();
     for example in EXAMPLES {
-        let mut slots = [Name::new(b""); 8];
-        let mut book = sealed(&mut tally, &mut slots, example.rules);
-        expect_example(&mut tally, &mut book, example);
+        tally += example.carry_out(heap)?;
     }
-    tally
+    Ok(tally)
 }

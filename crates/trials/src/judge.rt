@@ -1,21 +1,25 @@
 //! A second judge of tree bytes, over records that are written down by hand: it goes through the bytes once, with the queries that are
 //! still to be answered in a stack.
-use crate::answer::Answer;
-use prover::Restart;
+// The crate `compare` has a judge of its own: the two share no code.
+use prover::{Restart, Verdict};
 use std::alloc::{AllocError, Global};
 
 /// So many records a table has at most.
 const ROWS: usize = 16;
 
-/// The records of a book and a goal. A row is a head's letter and the numbers of its bodies; the goal's head is a letter.
+/// A record: its head's letter, and the numbers of its bodies.
+pub type Row<'t> = (u8, &'t [u8]);
+
+/// The records of a book and a goal, whose head is a letter. Each number is that of a row.
 #[derive(Clone, Copy)]
 pub struct Table<'t> {
-    pub rows: &'t [&'t [u8]],
+    pub rows: &'t [Row<'t>],
     pub in_force: &'t [u8],
     pub goal: u8,
 }
 
 /// A name asked from a set.
+// Flags, so that a query is copied, and unlike the sets of `compare`.
 #[derive(Clone, Copy)]
 struct Query {
     name: u8,
@@ -25,50 +29,39 @@ struct Query {
 impl Query {
     /// Whether the record is in force.
     fn knows(&self, number: u8) -> bool {
-        self.in_force.get(number as usize).copied().unwrap_or(false)
+        self.in_force.get(usize::from(number)) == Some(&true)
     }
 
     /// The same with these records in force too.
     fn with(&self, numbers: &[u8]) -> Query {
         let mut in_force = self.in_force;
         for number in numbers {
-            let at = *number as usize;
-            if at < ROWS {
-                in_force[at] = true;
+            if let Some(known) = in_force.get_mut(usize::from(*number)) {
+                *known = true;
             }
         }
-        Query {
-            name: self.name,
-            in_force,
-        }
+        Query { in_force, ..*self }
     }
 
     /// Another name from the same set.
     fn of(&self, name: u8) -> Query {
-        Query {
-            name,
-            in_force: self.in_force,
-        }
+        Query { name, ..*self }
     }
 }
 
+/// What the next byte is to say.
+#[derive(Clone, Copy)]
+enum Open {
+    /// How the query is answered.
+    Step(Query),
+    /// By which record it is.
+    Record(Query),
+}
+
 impl<'t> Table<'t> {
-    /// The row of a number; empty where there is none.
-    fn row(&self, number: u8) -> &'t [u8] {
-        match self.rows.get(number as usize) {
-            Some(row) => row,
-            None => &[],
-        }
-    }
-
-    /// The letter of the record's head.
-    fn head(&self, number: u8) -> Option<u8> {
-        self.row(number).first().copied()
-    }
-
-    /// The numbers of the record's bodies.
-    fn bodies(&self, number: u8) -> &'t [u8] {
-        self.row(number).get(1..).unwrap_or(&[])
+    /// The row of a number.
+    fn row(&self, number: u8) -> Option<Row<'t>> {
+        self.rows.get(usize::from(number)).copied()
     }
 
     /// The query that a goal begins with.
@@ -80,21 +73,23 @@ impl<'t> Table<'t> {
         nothing.with(self.in_force)
     }
 
-    /// Whether the record serves the query.
-    fn serves(&self, number: u8, query: &Query) -> bool {
-        query.knows(number) && self.head(number) == Some(query.name)
+    /// The bodies of the record, if it serves the query.
+    fn serving(&self, number: u8, query: &Query) -> Option<&'t [u8]> {
+        let (head, bodies) = self.row(number)?;
+        (query.knows(number) && head == query.name).then_some(bodies)
     }
 
-    /// Puts the record's bodies on the stack, the first on top.
+    /// Puts the bodies on the stack, the first on top.
     fn put_bodies(
         &self,
-        number: u8,
+        bodies: &[u8],
         query: &Query,
-        open: &mut Vec<Query>,
+        open: &mut Vec<Open>,
     ) -> Result<(), AllocError> {
-        for body in self.bodies(number).iter().rev() {
-            let asked = query.with(self.bodies(*body));
-            open.push(asked.of(self.head(*body).unwrap_or(0)))?;
+        for body in bodies.iter().rev() {
+            if let Some((head, supposed)) = self.row(*body) {
+                open.push(Open::Step(query.with(supposed).of(head)))?;
+            }
         }
         Ok(())
     }
@@ -106,30 +101,28 @@ pub fn judge(
     table: &Table<'_>,
     restart: Restart,
     bytes: &[u8],
-) -> Result<Answer, AllocError> {
+) -> Result<Verdict, AllocError> {
     let mut open = Vec::new(heap);
-    open.push(table.first_query())?;
-    let mut after_rule = false;
+    open.push(Open::Step(table.first_query()))?;
     for (place, byte) in bytes.iter().enumerate() {
-        let Some(query) = open.pop() else {
-            return Ok(Answer::Rejected { place });
+        let Some(next) = open.pop() else {
+            return Ok(Verdict::Rejected { place });
         };
-        match (after_rule, *byte, restart) {
-            (true, number, _) if table.serves(number, &query) => {
-                table.put_bodies(number, &query, &mut open)?;
-                after_rule = false;
+        match (next, *byte, restart) {
+            (Open::Step(query), 1, _) => open.push(Open::Record(query))?,
+            (Open::Step(query), 2, Restart::Allowed) => {
+                open.push(Open::Step(query.of(table.goal)))?
             }
-            (false, 1, _) => {
-                open.push(query)?;
-                after_rule = true;
-            }
-            (false, 2, Restart::Allowed) => open.push(query.of(table.goal))?,
-            _ => return Ok(Answer::Rejected { place }),
+            (Open::Record(query), number, _) => match table.serving(number, &query) {
+                Some(bodies) => table.put_bodies(bodies, &query, &mut open)?,
+                None => return Ok(Verdict::Rejected { place }),
+            },
+            _ => return Ok(Verdict::Rejected { place }),
         }
     }
-    if open.is_empty() {
-        Ok(Answer::Accepted)
+    Ok(if open.is_empty() {
+        Verdict::Accepted
     } else {
-        Ok(Answer::Rejected { place: bytes.len() })
-    }
+        Verdict::Rejected { place: bytes.len() }
+    })
 }

@@ -2,48 +2,33 @@
 #![tactic(auto)]
 
 mod answer;
-mod books;
-mod budgets;
-mod buffer;
-mod buffers;
 mod deep;
 mod examples;
 mod judge;
+mod limits;
 mod rooms;
 mod spelling;
 mod suppositions;
 mod tally;
 mod tree_cases;
 mod trees;
+mod trial;
 
-use budgets::budgets;
-use buffers::buffers;
 use deep::deep;
 use examples::examples;
+use limits::{budgets, buffers};
 use rooms::rooms;
 use std::io;
 use suppositions::suppositions;
-use tally::Tally;
 use trees::trees;
-
-/// Prints how a group came out.
-fn show(rt: &HostRuntime, group: &str, tally: Tally) -> io::Result<()> {
-    match tally.wrong {
-        None => {
-            let right = tally.compared;
-            println!(rt; "{group}: {right} right")
-        }
-        Some(at) => println!(rt; "{group}: wrong at {at}"),
-    }
-}
 
 fn main(rt: HostRuntime) -> io::Result<()> {
     let heap = rt.alloc();
-    show(&rt, "examples", examples())?;
-    show(&rt, "budgets", budgets(heap)?)?;
-    show(&rt, "buffers", buffers(heap)?)?;
-    show(&rt, "suppositions", suppositions(heap)?)?;
-    show(&rt, "names and records", rooms(heap)?)?;
-    show(&rt, "trees", trees(heap)?)?;
-    show(&rt, "deep", deep(heap)?)
+    println!(rt; "examples: {}", examples(heap)?)?;
+    println!(rt; "budgets: {}", budgets(heap)?)?;
+    println!(rt; "buffers: {}", buffers(heap)?)?;
+    println!(rt; "suppositions: {}", suppositions(heap)?)?;
+    println!(rt; "names and records: {}", rooms(heap)?)?;
+    println!(rt; "trees: {}", trees(heap)?)?;
+    println!(rt; "deep: {}", deep(heap)?)
 }

@@ -1,6 +1,6 @@
 //! Books whose trees, counts and records were worked out by hand.
 use crate::answer::Answer;
-use crate::examples::Example;
+use crate::examples::{Example, GOAL_WITH_BODIES, LARGER_SET, RESTART, RESTART_AT_HEAD};
 use crate::judge::Table;
 use crate::trees::Case;
 
@@ -15,37 +15,32 @@ pub const CASES: &[Case<'static>] = &[
             tree: &[1, 0],
         },
         table: Table {
-            rows: &[b"q", b"q"],
+            rows: &[(b'q', &[]), (b'q', &[])],
             in_force: &[0],
             goal: b'q',
         },
     },
     // Restart.
     Case {
-        example: Example {
-            rules: &[b"a if (b if a)"],
-            goal: b"a",
-            forbidden: Answer::No { count: 2 },
-            allowed: Answer::Yes { count: 3, len: 5 },
-            tree: &[1, 2, 2, 1, 0],
-        },
+        example: RESTART,
         table: Table {
-            rows: &[b"a", &[b'b', 0], &[b'a', 1], b"a"],
+            rows: &[(b'a', &[]), (b'b', &[0]), (b'a', &[1]), (b'a', &[])],
             in_force: &[2],
             goal: b'a',
         },
     },
     // Restart where the name heads a rule.
     Case {
-        example: Example {
-            rules: &[b"b if b", b"a if (b if a)"],
-            goal: b"a",
-            forbidden: Answer::No { count: 2 },
-            allowed: Answer::Yes { count: 3, len: 5 },
-            tree: &[1, 4, 2, 1, 2],
-        },
+        example: RESTART_AT_HEAD,
         table: Table {
-            rows: &[b"b", &[b'b', 0], b"a", &[b'b', 2], &[b'a', 3], b"a"],
+            rows: &[
+                (b'b', &[]),
+                (b'b', &[0]),
+                (b'a', &[]),
+                (b'b', &[2]),
+                (b'a', &[3]),
+                (b'a', &[]),
+            ],
             in_force: &[1, 4],
             goal: b'a',
         },
@@ -61,13 +56,13 @@ pub const CASES: &[Case<'static>] = &[
         },
         table: Table {
             rows: &[
-                b"p",
-                &[b'q', 0],
-                &[b'p', 1],
-                b"q",
-                &[b'r', 3],
-                &[b'q', 4],
-                b"p",
+                (b'p', &[]),
+                (b'q', &[0]),
+                (b'p', &[1]),
+                (b'q', &[]),
+                (b'r', &[3]),
+                (b'q', &[4]),
+                (b'p', &[]),
             ],
             in_force: &[2, 5],
             goal: b'p',
@@ -75,30 +70,25 @@ pub const CASES: &[Case<'static>] = &[
     },
     // The same name from a larger set.
     Case {
-        example: Example {
-            rules: &[b"n if (n if a)"],
-            goal: b"n if (n if a)",
-            forbidden: Answer::Yes { count: 3, len: 6 },
-            allowed: Answer::Yes { count: 3, len: 6 },
-            tree: &[1, 2, 1, 4, 1, 0],
-        },
+        example: LARGER_SET,
         table: Table {
-            rows: &[b"a", &[b'n', 0], &[b'n', 1], b"a", &[b'n', 3], &[b'n', 4]],
+            rows: &[
+                (b'a', &[]),
+                (b'n', &[0]),
+                (b'n', &[1]),
+                (b'a', &[]),
+                (b'n', &[3]),
+                (b'n', &[4]),
+            ],
             in_force: &[2, 4],
             goal: b'n',
         },
     },
     // The goal's bodies.
     Case {
-        example: Example {
-            rules: &[],
-            goal: b"a if b, a",
-            forbidden: Answer::Yes { count: 1, len: 2 },
-            allowed: Answer::Yes { count: 1, len: 2 },
-            tree: &[1, 1],
-        },
+        example: GOAL_WITH_BODIES,
         table: Table {
-            rows: &[b"b", b"a", &[b'a', 0, 1]],
+            rows: &[(b'b', &[]), (b'a', &[]), (b'a', &[0, 1])],
             in_force: &[0, 1],
             goal: b'a',
         },
@@ -113,7 +103,7 @@ pub const CASES: &[Case<'static>] = &[
             tree: &[1, 2, 1, 0],
         },
         table: Table {
-            rows: &[b"a", b"a", &[b'b', 1], &[b'b', 0, 2]],
+            rows: &[(b'a', &[]), (b'a', &[]), (b'b', &[1]), (b'b', &[0, 2])],
             in_force: &[0, 2],
             goal: b'b',
         },
@@ -128,7 +118,14 @@ pub const CASES: &[Case<'static>] = &[
             tree: &[1, 4, 1, 0, 1, 1],
         },
         table: Table {
-            rows: &[b"a", b"b", b"a", b"b", &[b'c', 2, 3], b"c"],
+            rows: &[
+                (b'a', &[]),
+                (b'b', &[]),
+                (b'a', &[]),
+                (b'b', &[]),
+                (b'c', &[2, 3]),
+                (b'c', &[]),
+            ],
             in_force: &[0, 1, 4],
             goal: b'c',
         },
@@ -143,7 +140,14 @@ pub const CASES: &[Case<'static>] = &[
             tree: &[1, 3, 1, 4],
         },
         table: Table {
-            rows: &[b"b", &[b'a', 0], b"c", &[b'a', 2], b"c", b"a"],
+            rows: &[
+                (b'b', &[]),
+                (b'a', &[0]),
+                (b'c', &[]),
+                (b'a', &[2]),
+                (b'c', &[]),
+                (b'a', &[]),
+            ],
             in_force: &[1, 3, 4],
             goal: b'a',
         },
@@ -159,14 +163,14 @@ pub const CASES: &[Case<'static>] = &[
         },
         table: Table {
             rows: &[
-                b"b",
-                &[b'a', 0],
-                b"a",
-                &[b'b', 2],
-                b"c",
-                &[b'b', 4],
-                b"c",
-                b"a",
+                (b'b', &[]),
+                (b'a', &[0]),
+                (b'a', &[]),
+                (b'b', &[2]),
+                (b'c', &[]),
+                (b'b', &[4]),
+                (b'c', &[]),
+                (b'a', &[]),
             ],
             in_force: &[1, 3, 5, 6],
             goal: b'a',
@@ -182,7 +186,14 @@ pub const CASES: &[Case<'static>] = &[
             tree: &[1, 2, 1, 4, 1, 0],
         },
         table: Table {
-            rows: &[b"a", &[b'b', 0], &[b'c', 1], b"a", &[b'b', 3], b"c"],
+            rows: &[
+                (b'a', &[]),
+                (b'b', &[0]),
+                (b'c', &[1]),
+                (b'a', &[]),
+                (b'b', &[3]),
+                (b'c', &[]),
+            ],
             in_force: &[2, 4],
             goal: b'c',
         },
@@ -198,16 +209,16 @@ pub const CASES: &[Case<'static>] = &[
         },
         table: Table {
             rows: &[
-                b"a",
-                &[b'c', 0],
-                b"b",
-                &[b'c', 2],
-                &[b'd', 1, 3],
-                b"a",
-                &[b'c', 5],
-                b"b",
-                &[b'c', 7],
-                b"d",
+                (b'a', &[]),
+                (b'c', &[0]),
+                (b'b', &[]),
+                (b'c', &[2]),
+                (b'd', &[1, 3]),
+                (b'a', &[]),
+                (b'c', &[5]),
+                (b'b', &[]),
+                (b'c', &[7]),
+                (b'd', &[]),
             ],
             in_force: &[4, 6, 8],
             goal: b'd',
@@ -224,17 +235,17 @@ pub const CASES: &[Case<'static>] = &[
         },
         table: Table {
             rows: &[
-                b"a",
-                b"a",
-                b"a",
-                b"a",
-                b"a",
-                b"a",
-                b"a",
-                b"a",
-                &[b'e', 0, 1, 2, 3, 4, 5, 6, 7],
-                b"a",
-                b"e",
+                (b'a', &[]),
+                (b'a', &[]),
+                (b'a', &[]),
+                (b'a', &[]),
+                (b'a', &[]),
+                (b'a', &[]),
+                (b'a', &[]),
+                (b'a', &[]),
+                (b'e', &[0, 1, 2, 3, 4, 5, 6, 7]),
+                (b'a', &[]),
+                (b'e', &[]),
             ],
             in_force: &[8, 9],
             goal: b'e',

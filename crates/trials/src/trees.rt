@@ -1,13 +1,12 @@
 //! The trees that ask finds, as check takes them, and each tree near them.
-use crate::answer::{Answer, checked};
-use crate::books::sealed;
-use crate::examples::{Example, expect_example};
+use crate::answer::Answer;
+use crate::examples::Example;
 use crate::judge::{Table, judge};
 use crate::tally::Tally;
 use crate::tree_cases::CASES;
+use crate::trial::{BookTrial, no_names};
 use prover::Restart;
 use reader::Name;
-use service::Sealed;
 use std::alloc::{AllocError, Global};
 
 /// No tree here has so many bytes.
@@ -20,106 +19,66 @@ pub struct Case<'c> {
     pub table: Table<'c>,
 }
 
-/// Checks bytes as both judges see them, with one choice of restart.
-fn compare_with(
-    heap: Global,
-    tally: &mut Tally,
-    book: &mut Sealed<'_, Name>,
-    case: &Case<'_>,
-    restart: Restart,
-    bytes: &[u8],
-) -> Result<(), AllocError> {
-    let wanted = judge(heap, &case.table, restart, bytes)?;
-    let verdict = checked(book.check(case.example.goal, restart, bytes));
-    tally.expect(verdict, wanted);
-    Ok(())
-}
-
-/// Checks bytes as both judges see them.
-fn compare(
-    heap: Global,
-    tally: &mut Tally,
-    book: &mut Sealed<'_, Name>,
-    case: &Case<'_>,
-    bytes: &[u8],
-) -> Result<(), AllocError> {
-    compare_with(heap, tally, book, case, Restart::Forbidden, bytes)?;
-    compare_with(heap, tally, book, case, Restart::Allowed, bytes)
-}
-
-/// The case's tree with zeros behind it.
-fn with_zeros(case: &Case<'_>) -> [u8; BYTES] {
-    let mut bytes = [0; BYTES];
-    for (at, byte) in case.example.tree.iter().enumerate() {
-        if at < BYTES {
-            bytes[at] = *byte;
+impl Case<'_> {
+    /// Checks bytes as both judges see them, without restart and with it.
+    fn compare(&self, trial: &mut BookTrial<'_, Name>, bytes: &[u8]) -> Result<(), AllocError> {
+        for restart in [Restart::Forbidden, Restart::Allowed] {
+            let verdict = judge(trial.heap, &self.table, restart, bytes)?;
+            trial.expect_check(self.example.goal, restart, bytes, verdict.into());
         }
+        Ok(())
     }
-    bytes
-}
 
-/// Puts every byte at one place of the tree.
-fn change_at(
-    heap: Global,
-    tally: &mut Tally,
-    book: &mut Sealed<'_, Name>,
-    case: &Case<'_>,
-    place: usize,
-) -> Result<(), AllocError> {
-    let len = case.example.tree.len().min(BYTES);
-    let mut bytes = with_zeros(case);
-    for value in 0..=255u8 {
-        if place < BYTES {
-            bytes[place] = value;
+    /// Puts every byte at one place of the tree.
+    fn change_at(&self, trial: &mut BookTrial<'_, Name>, place: usize) -> Result<(), AllocError> {
+        let mut bytes = Vec::from_slice(trial.heap, self.example.tree)?;
+        for value in 0..=255u8 {
+            if let Some(byte) = bytes.get_mut(place) {
+                *byte = value;
+            }
+            self.compare(trial, &bytes)?;
         }
-        compare(heap, tally, book, case, &bytes[0..len])?;
+        Ok(())
     }
-    Ok(())
-}
 
-/// Changes the tree at each place.
-fn change_each(
-    heap: Global,
-    tally: &mut Tally,
-    book: &mut Sealed<'_, Name>,
-    case: &Case<'_>,
-) -> Result<(), AllocError> {
-    for place in 0..case.example.tree.len() {
-        change_at(heap, tally, book, case, place)?;
+    /// Changes the tree at each place.
+    // By place, as the changed bytes are another list.
+    fn change_each(&self, trial: &mut BookTrial<'_, Name>) -> Result<(), AllocError> {
+        for place in 0..self.example.tree.len() {
+            self.change_at(trial, place)?;
+        }
+        Ok(())
     }
-    Ok(())
-}
 
-/// Cuts the tree off at each length, and puts zeros behind it.
-fn cut_each(
-    heap: Global,
-    tally: &mut Tally,
-    book: &mut Sealed<'_, Name>,
-    case: &Case<'_>,
-) -> Result<(), AllocError> {
-    let bytes = with_zeros(case);
-    for len in 0..BYTES {
-        compare(heap, tally, book, case, &bytes[0..len])?;
+    /// Cuts the tree off at each length, and puts zeros behind it.
+    fn cut_each(&self, trial: &mut BookTrial<'_, Name>) -> Result<(), AllocError> {
+        let mut bytes = Vec::from_slice(trial.heap, self.example.tree)?;
+        bytes.resize(BYTES, 0)?;
+        for len in 0..BYTES {
+            self.compare(trial, &bytes[..len])?;
+        }
+        Ok(())
     }
-    Ok(())
-}
 
-/// The tree is found, and accepted; what is near it is judged alike.
-fn carry_out(heap: Global, tally: &mut Tally, case: &Case<'_>) -> Result<(), AllocError> {
-    let mut slots = [Name::new(b""); 8];
-    let mut book = sealed(tally, &mut slots, case.example.rules);
-    expect_example(tally, &mut book, &case.example);
-    let verdict = checked(book.check(case.example.goal, Restart::Allowed, case.example.tree));
-    tally.expect(verdict, Answer::Accepted);
-    change_each(heap, tally, &mut book, case)?;
-    cut_each(heap, tally, &mut book, case)
+    /// The tree is found, and accepted; what is near it is judged alike.
+    fn carry_out(&self, heap: Global) -> Result<Tally, AllocError> {
+        let mut slots = no_names::<8>();
+        let mut trial = BookTrial::new(heap, &mut slots, self.example.rules);
+        self.example.expect(&mut trial)?;
+        let Example { goal, tree, .. } = self.example;
+        trial.expect_check(goal, Restart::Allowed, tree, Answer::Accepted);
+        self.change_each(&mut trial)?;
+        self.cut_each(&mut trial)?;
+        Ok(trial.tally)
+    }
 }
 
 /// Every case, over a book of its own.
+// The sum is taken as in `examples`: four lines alike are not worth a closure.
 pub fn trees(heap: Global) -> Result<Tally, AllocError> {
     let mut tally = Tally::new();
     for case in CASES {
-        carry_out(heap, &mut tally, case)?;
+        tally += case.carry_out(heap)?;
     }
     Ok(tally)
 }

@@ -1,5 +1,5 @@
 use Rattle.std.proofs.Common.{◌+◌, ◌*◌}
-use Rattle.compare.proofs.slow.+ask_try_all_try_one.Given as goal
+use Rattle.compare.proofs.slow.Walk.+ask_try_all_try_one.Given as goal
 
 abbrev pub decreases-ask : goal.decreases-ask
 decreases-ask l = 3 * l.left

@@ -1,5 +1,5 @@
 use Rattle.std.proofs.Common.{◌+◌, ◌*◌}
-use Rattle.compare.proofs.judge.+read_read_rule.Given as goal
+use Rattle.compare.proofs.judge.Reading.+read_read_rule.Given as goal
 
 abbrev pub decreases-read : goal.decreases-read
 decreases-read l = 2 * l.left
