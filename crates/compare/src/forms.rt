@@ -45,10 +45,7 @@ impl Form for Name {
 
 impl Form for FeatureCode {
     fn blank() -> FeatureCode {
-        FeatureCode {
-            class: 0,
-            feature: 0,
-        }
+        FeatureCode::default()
     }
 
     fn spell(heap: Global, rule: &Rule) -> Result<Vec<u8>, AllocError> {

@@ -10,7 +10,7 @@ pub struct Rule {
 }
 
 /// The rule of a record, however deep it lies.
-// A loop, since the closure of `find_map` is not shown callable where the recursion runs through it.
+// A loop, tried as `find_map`: its closure is not shown callable where the recursion runs through it.
 pub fn find(rules: &[Rule], wanted: u8) -> Option<&Rule> {
     for rule in rules {
         if rule.number == wanted {

@@ -148,7 +148,8 @@ impl<'t> Walk<'t> {
     }
 
     /// Tries the rules in force with this head by rising number, and then, where it may be, the goal's head again.
-    // Loops, here and in `try_one`, as in `find`: no closure is shown callable where the recursion runs through it.
+    // Loops, here and in `try_one`, as in `find`: no closure is shown callable where the recursion runs through it. An Option
+    // inside a Result has no `?` of its own.
     #[cycle(ask_try_all_try_one)]
     fn try_all(&mut self, query: Query<'_>, left: u32) -> Found {
         let task = self.task;

@@ -124,7 +124,7 @@ impl World {
     }
 
     /// Whether a rule holds at a release: each follower at which all its bodies hold carries its head.
-    // A loop, as in `all_hold`, since the closure of `all` is not shown callable where the recursion runs through it.
+    // A loop, tried as `all`: its closure is not shown callable where the recursion runs through it.
     #[cycle(all_hold_holds)]
     pub fn holds(&self, rule: &Rule, release: &Release) -> bool {
         for (place, later) in self.releases.iter().enumerate() {
@@ -139,6 +139,7 @@ impl World {
     }
 
     /// Whether all these rules hold at a release.
+    // A loop, as in `holds`.
     #[cycle(all_hold_holds)]
     fn all_hold(&self, rules: &[Rule], release: &Release) -> bool {
         for rule in rules {

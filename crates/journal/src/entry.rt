@@ -18,6 +18,7 @@ pub enum Entry<'j> {
     /// A chart that was filled, or not.
     Chart(Result<(), ChartFault>),
     /// None of these.
+    // An entry, as a line is printed for it too.
     Unread,
 }
 

@@ -104,6 +104,7 @@ pub fn judge(
 ) -> Result<Verdict, AllocError> {
     let mut open = Vec::new(heap);
     open.push(Open::Step(table.first_query()))?;
+    // No `?`: where bytes are rejected is an answer, and only want of memory is an error.
     for (place, byte) in bytes.iter().enumerate() {
         let Some(next) = open.pop() else {
             return Ok(Verdict::Rejected { place });

@@ -146,11 +146,7 @@ fn try_form<K: Spelling>(heap: Global, slots: &mut [K; SLOTS]) -> Result<Tally, 
 
 /// Both forms.
 pub fn rooms(heap: Global) -> Result<Tally, AllocError> {
-    let zero = FeatureCode {
-        class: 0,
-        feature: 0,
-    };
     let mut tally = try_form(heap, &mut no_names())?;
-    tally += try_form(heap, &mut [zero; SLOTS])?;
+    tally += try_form(heap, &mut [FeatureCode::default(); SLOTS])?;
     Ok(tally)
 }
