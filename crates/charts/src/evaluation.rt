@@ -16,7 +16,12 @@ use std::array;
 fn followers_of<C: Chart>(chart: &C, release: usize) -> u64
     ensures { (v : ℕ) → bit result v ≡ (C.value chart.now).follows release v }
 {
-    bits_where(chart.size(), |later| chart.follows(release, later))
+    let size = chart.size();
+    // Past the last release nothing follows, so nothing is asked.
+    if release >= size {
+        return 0;
+    }
+    bits_where(size, |later| chart.follows(release, later))
 }
 
 /// The set of the releases that carry `number`.

@@ -1,5 +1,5 @@
 -- From what a call does to what the console answers.
-use Rattle.std.proofs.Common.{◌≡◌, ℕ, Bool, true, false, List, take, Ok, Err, Result, Some, Option, IsErrAnd, MatchResult, sym, refl, ap, ◌∙◌, subst, arith, Bor}
+use Rattle.std.proofs.Common.{◌≡◌, ℕ, Bool, true, false, List, take, Ok, Err, Result, Some, Option, IsErrAnd, sym, refl, ap, ◌∙◌, subst, arith, Bor}
 use mathlib.Core.Option.{none, some}
 use Rattle.reader.specs.declared.name.Name.{Name}
 use Rattle.prover.specs.Settings.{allowed}
@@ -15,13 +15,11 @@ use Rattle.service.specs.declared.state.State.TheVariants.{Open, Shut}
 use Rattle.console.specs.declared.refusals.Refused.{Refused}
 use Rattle.console.specs.declared.orders.Order.{Order}
 use Rattle.console.specs.declared.orders.Order.TheVariants as variant
-use Rattle.console.specs.Answers.{Prints, line_of, asks}
+use Rattle.console.specs.Answers.{Prints, asks}
 use Rattle.console.specs.Console.{names, call_of, shown, Answered, made, not_taken, other}
 use Rattle.console.specs.Lines.{bad_line}
 use Rattle.console.specs.Limits.{line_bytes}
 use Rattle.console.specs.Orders.{Ordered, ordered, order_of, order_read}
-use Rattle.console.specs.Refusals.{refused_line}
-use Rattle.console.specs.Texts.{Printed, text}
 use Rattle.console.proofs.Answering.{kept_answered}
 
 -- the call is made, and its answer printed
@@ -93,13 +91,8 @@ prints_kept o kept whole s s' p is cut prints slots t stands =
     let r = prints slots t stands in
     (r.0, kept_answered slots t kept whole cut (subst (λ (x : Ordered). Answered slots t x p r.0) is r.1), r.2)
 
--- what is printed in the end, a refusal or not
-in_the_end : (r : Result Printed Refused) (p : Printed) → MatchResult r (λ x. p ≡ x) (λ e. text p ≡ refused_line e) → text p ≡ line_of r
-in_the_end (Ok x) p is = ap text is
-in_the_end (Err e) p is = is
-
-pub answered : (o : Ordered) (kept whole : List ℕ) (s s' : State Name) (r : Result Printed Refused) (p : Printed)
-    → o ≡ ordered kept → kept ≡ take line_bytes whole → MatchResult r (λ x. p ≡ x) (λ e. text p ≡ refused_line e)
-    → Prints o s (line_of r) s' → Prints (ordered whole) s (text p) s'
-answered o kept whole s s' r p is cut end prints =
-    prints_kept o kept whole s s' (text p) is cut (subst (λ (l : List ℕ). Prints o s l s') (sym (in_the_end r p end)) prints)
+pub answered : (o : Ordered) (kept whole : List ℕ) (s s' : State Name) (line p : List ℕ)
+    → o ≡ ordered kept → kept ≡ take line_bytes whole → p ≡ line
+    → Prints o s line s' → Prints (ordered whole) s p s'
+answered o kept whole s s' line p is cut end prints =
+    prints_kept o kept whole s s' p is cut (subst (λ (l : List ℕ). Prints o s l s') (sym end) prints)

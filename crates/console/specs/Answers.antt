@@ -10,6 +10,7 @@ use Rattle.service.specs.declared.state.State.TheVariants.{Open}
 use Rattle.console.specs.declared.refusals.Refused.{Refused}
 use Rattle.console.specs.Console.{names, shown, Answered}
 use Rattle.console.specs.Limits.{budget, room}
+use Rattle.console.specs.Lines.{ok_line}
 use Rattle.console.specs.Orders.{Ordered, seal}
 use Rattle.console.specs.Refusals.{refused_line}
 use Rattle.console.specs.Texts.{Printed, text}
@@ -19,10 +20,15 @@ abbrev pub Prints : Ordered → State Name → List ℕ → State Name → Type 
 Prints o s printed s' =
     (slots : ℕ) (t : Tally) → Represents names slots t s → (t' : Tally) × Answered slots t o printed t' × Represents names slots t' s'
 
--- the line that is printed, or the one for the refusal
-abbrev pub line_of : Result Printed Refused → List ℕ
-line_of (Ok p) = text p
-line_of (Err r) = refused_line r
+-- what was printed, or the line for the refusal
+abbrev pub line_of : {T : Type 0} → Printed → Result T Refused → List ℕ
+line_of p (Ok x) = text p
+line_of p (Err r) = refused_line r
+
+-- the line for what is done or refused
+abbrev pub change_line : {T : Type 0} → Result T Refused → List ℕ
+change_line (Ok x) = ok_line
+change_line (Err r) = refused_line r
 
 -- the order is answered over a draft, whose seal is left to the caller; line x is the line that x stands for
 abbrev pub DraftAnswers : {X : Type 0} → (X → List ℕ) → Ordered → Draft Name → Option X → Draft Name → Type 0

@@ -62,7 +62,11 @@ impl<const N: usize> Buffer<N> {
     pub fn push(&mut self, byte: u8)
         ensures { Gains self.old (byte ∷ []) self.new }
     {
-        self.extend_from_slice(&[byte]);
+        // Not by `extend_from_slice`: that calls for a copy of one byte.
+        if self.len < N {
+            self.bytes[self.len] = byte;
+            self.len += 1;
+        }
     }
 
     /// More bytes; those for which there is no room are not kept.

@@ -1,5 +1,5 @@
 //! The console over a sealed book.
-ghost use Rattle.std.specs.Prelude.{◌≡◌, ℕ, List, length, Ok as Found};
+ghost use Rattle.std.specs.Prelude.{◌≡◌, ℕ, List, [], length, OnErr, Ok as Found};
 ghost use Rattle.service.specs.declared.state.State.TheVariants.{Open, Shut};
 ghost use Rattle.console.specs.Answers.{Prints as «Answers», Asks, line_of};
 ghost use Rattle.prover.specs.Settings.{allowed};
@@ -22,45 +22,66 @@ use service::Sealed;
 pub fn answer_sealed(sealed: &mut Sealed<'_, Name>, line: &Line) -> Printed
     ensures { (whole : List ℕ) → Keeps line.now whole → «Answers» (ordered whole) (Shut sealed.old) (text result) (Shut sealed.new) }
 {
-    obey_sealed(sealed, read_order(line.as_bytes())).unwrap_or_else(bad)
+    let mut printed = Printed::new();
+    if let Err(refused) = obey_sealed(sealed, read_order(line.as_bytes()), &mut printed) {
+        bad(refused, &mut printed);
+    }
+    printed
 }
 
-/// Carries out an order over a sealed book.
-fn obey_sealed(sealed: &mut Sealed<'_, Name>, order: Option<Order<'_>>) -> Result<Printed, Refused>
-    ensures { «Answers» (order_read order.entry) (Shut sealed.old) (line_of result) (Shut sealed.new) }
+/// Carries out an order over a sealed book, and prints what it comes to.
+// The printed line is lent: in a `Result` its eight kibibytes would be copied at each `?`.
+fn obey_sealed(
+    sealed: &mut Sealed<'_, Name>,
+    order: Option<Order<'_>>,
+    printed: &mut Printed,
+) -> Result<(), Refused>
+    requires { text printed.old ≡ [] }
+    ensures answers { «Answers» (order_read order.entry) (Shut sealed.old) (line_of printed.new result) (Shut sealed.new) }
+    ensures bare { OnErr result (text printed.new ≡ []) }
 {
     match order.ok_or(Refused::Unknown)? {
         Order::Suppose(rule) => {
             sealed.suppose(rule)?;
-            Ok(ok())
+            ok(printed);
         }
         Order::Withdraw => {
             sealed.withdraw()?;
-            Ok(ok())
+            ok(printed);
         }
-        Order::Ask(restart, goal) => ask(sealed, goal, restart),
-        _ => Err(Refused::NotTaken),
+        Order::Ask(restart, goal) => ask(sealed, goal, restart, printed)?,
+        _ => return Err(Refused::NotTaken),
     }
+    Ok(())
 }
 
 /// Asks a goal, and prints the answer.
-fn ask(sealed: &mut Sealed<'_, Name>, goal: &[u8], restart: Restart) -> Result<Printed, Refused>
-    ensures { Asks goal.now (allowed restart) (Shut sealed.old) (line_of result) (Shut sealed.new) }
+fn ask(
+    sealed: &mut Sealed<'_, Name>,
+    goal: &[u8],
+    restart: Restart,
+    printed: &mut Printed,
+) -> Result<(), Refused>
+    requires { text printed.old ≡ [] }
+    ensures answers { Asks goal.now (allowed restart) (Shut sealed.old) (line_of printed.new result) (Shut sealed.new) }
+    ensures bare { OnErr result (text printed.new ≡ []) }
 {
     let mut tree = [0u8; ROOM];
     let outcome = sealed.ask(goal, restart, BUDGET, &mut tree)?;
-    Ok(found(outcome, &tree))
+    found(outcome, &tree, printed);
+    Ok(())
 }
 
-/// The line for what ask came to; with yes, its tree stands first in the buffer.
-fn found(outcome: Outcome, tree: &[u8]) -> Printed
-    requires { length tree.now ≡ room }
-    ensures { text result ≡ shown (asked (Found outcome)) tree.now }
+/// Prints what ask came to; with yes, its tree stands first in the buffer.
+fn found(outcome: Outcome, tree: &[u8], printed: &mut Printed)
+    requires bare { text printed.old ≡ [] }
+    requires room { length tree.now ≡ room }
+    ensures { text printed.new ≡ shown (asked (Found outcome)) tree.now }
 {
     match outcome {
-        Outcome::Yes { count, len } => yes(count, &tree[..len.min(tree.len())]),
-        Outcome::No { count } => counted(b"no", count),
-        Outcome::Spent { count } => counted(b"spent", count),
-        Outcome::Long { count, len: _ } => counted(b"long", count),
+        Outcome::Yes { count, len } => yes(count, &tree[..len.min(tree.len())], printed),
+        Outcome::No { count } => counted(b"no", count, printed),
+        Outcome::Spent { count } => counted(b"spent", count, printed),
+        Outcome::Long { count, len: _ } => counted(b"long", count, printed),
     }
 }

@@ -8,12 +8,12 @@ use service::Call;
 pub enum Entry<'j> {
     /// A call other than check.
     Call(Call<'j>),
-    /// A check, with the bytes of its tree.
-    // Apart from `Call`, which borrows its tree: the bytes stand here.
+    /// A check, with how many of the trees' bytes are its own.
+    // Apart from `Call`, which borrows its tree: while lines are read the trees still grow.
     Check {
         goal: &'j [u8],
         restart: Restart,
-        tree: Vec<u8>,
+        length: usize,
     },
     /// A chart that was filled, or not.
     Chart(Result<(), ChartFault>),
@@ -23,20 +23,11 @@ pub enum Entry<'j> {
 }
 
 impl Entry<'_> {
-    /// The call that the line makes; nothing where it makes none.
-    pub fn call(&self) -> Option<Call<'_>> {
+    /// How many bytes of the trees found are the line's own.
+    pub fn room(&self) -> usize {
         match self {
-            Entry::Call(call) => Some(*call),
-            Entry::Check {
-                goal,
-                restart,
-                tree,
-            } => Some(Call::Check {
-                goal,
-                restart: *restart,
-                tree,
-            }),
-            Entry::Chart(_) | Entry::Unread => None,
+            Entry::Call(call) => call.room(),
+            _ => 0,
         }
     }
 }

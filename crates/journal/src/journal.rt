@@ -12,6 +12,9 @@ use std::alloc::{AllocError, Global};
 #[derive(Drop)]
 pub struct Journal<'j> {
     pub entries: Vec<Entry<'j>>,
+    /// The bytes of the trees to be checked, those of each check behind those of the one before.
+    // One list: a list in each check would take more memory than most trees do.
+    pub trees: Vec<u8>,
     /// The charts that were filled, behind a single release that carries nothing.
     pub charts: Vec<AnyChart>,
     /// The room for the trees to be found, that of each ask behind that of the one before.
@@ -23,6 +26,7 @@ impl<'j> Journal<'j> {
     fn new(heap: Global) -> Result<Journal<'j>, AllocError> {
         Ok(Journal {
             entries: Vec::new(heap),
+            trees: Vec::new(heap),
             charts: vec![in heap; AnyChart::Single(Single::new())]?,
             found: Vec::new(heap),
         })
@@ -83,12 +87,14 @@ impl<'j> Journal<'j> {
     }
 
     /// `TREE GOAL`
-    fn check(&self, words: &'j [u8], restart: Restart) -> Option<Entry<'j>> {
+    fn check(&mut self, words: &'j [u8], restart: Restart) -> Option<Entry<'j>> {
         let Split { word, rest } = split_once(words, b' ')?;
+        let tree = hex_bytes(*self.trees.allocator(), word)?;
+        self.trees.extend_from_slice(&tree).ok()?;
         Some(Entry::Check {
             goal: rest,
             restart,
-            tree: hex_bytes(*self.charts.allocator(), word)?,
+            length: tree.len(),
         })
     }
 

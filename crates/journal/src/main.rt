@@ -20,9 +20,10 @@ fn main(rt: HostRuntime) -> io::Result<()> {
     rt.stdin().read_to_end(&mut text)?;
     let Journal {
         entries,
+        trees,
         charts,
         mut found,
     } = Journal::read(heap, &text)?;
-    let answers = carry_out(heap, &entries, &charts, &mut found)?;
+    let answers = carry_out(heap, &entries, &trees, &charts, &mut found)?;
     print(&rt, &entries, &answers, &found)
 }

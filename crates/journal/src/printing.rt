@@ -108,8 +108,7 @@ pub fn print(
             Entry::Chart(Err(fault)) => println!(rt; "{}", Refusal::from(*fault))?,
             Entry::Unread => println!(rt; "unread")?,
             Entry::Call(_) | Entry::Check { .. } => {
-                let room = entry.call().map_or(0, |call| call.room());
-                let (buffer, behind) = found.split_at_checked(room).unwrap_or((found, &[]));
+                let (buffer, behind) = found.split_at_checked(entry.room()).unwrap_or((found, &[]));
                 found = behind;
                 if let Some(answer) = answers.next() {
                     println!(rt; "{}", Told { answer, buffer })?;

@@ -36,8 +36,9 @@ const DIGITS: usize = 9;
 
 /// A number in decimal, without sign, of one to nine digits.
 pub fn number(word: &[u8]) -> Option<u32> {
-    let is_decimal = word.iter().all(|byte| byte.is_ascii_digit());
-    if !is_decimal || word.len() > DIGITS {
+    // The length first: a word of any length is refused without being read.
+    let is_decimal = word.len() <= DIGITS && word.iter().all(|byte| byte.is_ascii_digit());
+    if !is_decimal {
         return None;
     }
     str::from_utf8(word).ok()?.parse().ok()
@@ -62,10 +63,10 @@ pub fn hex_bytes(heap: Global, word: &[u8]) -> Option<Vec<u8>> {
 
 /// A 64-bit word of sixteen digits in lower-case hexadecimal.
 pub fn hex_word(word: &[u8]) -> Option<u64> {
-    if !is_hex(word) {
+    let mut bytes = 0u64.to_be_bytes();
+    if word.len() != 2 * bytes.len() || !is_hex(word) {
         return None;
     }
-    let mut bytes = 0u64.to_be_bytes();
     hex::decode_to_slice(word, &mut bytes).ok()?;
     Some(u64::from_be_bytes(bytes))
 }

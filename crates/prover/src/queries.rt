@@ -183,7 +183,7 @@ impl Search<'_> {
     {
         let head = self.book.head(body);
         let wider = self.book.supposing(set, body);
-        if wider == set {
+        if wider.equals(set) {
             return self.query(force, head);
         }
         let saved = InForce {

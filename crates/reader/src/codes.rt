@@ -166,7 +166,10 @@ impl<'a> CodeReader<'a> {
 pub fn read_codes(bytes: &[u8]) -> Result<Outline, ReaderFault>
     ensures { MatchResult result (λ o. ReadsAs bytes.now o) (λ f. Refused bytes.now f.reason f.place) }
 {
-    check_size(bytes)?;
+    // No `?`: it would make room for one more outline, and clear it, at each rule that is read.
+    if let Err(fault) = check_size(bytes) {
+        return Err(fault);
+    }
     let mut reader = CodeReader::new(bytes);
     for byte in bytes {
         reader.step(*byte)?;

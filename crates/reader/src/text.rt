@@ -177,7 +177,10 @@ impl<'a> TextReader<'a> {
 pub fn read_text(bytes: &[u8]) -> Result<Outline, ReaderFault>
     ensures { MatchResult result (λ o. ReadsAs bytes.now o) (λ f. Refused bytes.now f.reason f.place) }
 {
-    check_size(bytes)?;
+    // No `?`: it would make room for one more outline, and clear it, at each rule that is read.
+    if let Err(fault) = check_size(bytes) {
+        return Err(fault);
+    }
     let mut reader = TextReader::new(bytes);
     reader.rule(DEPTH - 1)?;
     if reader.next.token == Token::Finish {

@@ -9,7 +9,7 @@ use lines::Lines;
 use reader::Name;
 use service::{Draft, Sealed};
 use std::io;
-use std::io::{BufReader, Read, Write};
+use std::io::{Read, Write};
 
 fn print(rt: &HostRuntime, printed: &Printed) -> io::Result<()> {
     rt.stdout().write_all(printed.as_bytes())
@@ -31,7 +31,7 @@ fn answer_until_end<R: Read + Drop>(
 fn main(rt: HostRuntime) -> io::Result<()> {
     let mut slots = [Name::new(b""); SLOTS];
     let mut draft = Draft::new(&mut slots);
-    let mut lines = Lines::new(BufReader::new(rt.alloc(), rt.stdin())?);
+    let mut lines = Lines::new(rt.stdin());
     for line in lines.by_ref() {
         if let Some(printed) = answer_draft(&mut draft, &line?) {
             print(&rt, &printed)?;

@@ -8,4 +8,4 @@ use Rattle.console.proofs.Ordering.{made_prints}
 
 pub returns : goal.returns
 returns c =
-    made_prints seal Call.seal done [] (text c.ok.result) (Open c.args.draft) (Shut c.seal.result) refl c.seal.ensures c.ok.ensures
+    made_prints seal Call.seal done [] (text c.ok.new.line) (Open c.args.draft) (Shut c.seal.result) refl c.seal.ensures c.ok.ensures

@@ -3,4 +3,4 @@ use Rattle.console.proofs.lines.ok.Goals as goal
 use Rattle.console.proofs.Whole.{finished}
 
 pub returns : goal.returns
-returns c = finished (omega arith) c.new-line.ensures.keeps c.extend_from_slice.ensures
+returns c = finished (omega arith) c.requires c.extend_from_slice.ensures

@@ -5,10 +5,10 @@ use Rattle.console.specs.Answers.{line_of}
 use Rattle.console.proofs.sealed.ask.Goals as goal
 use Rattle.console.proofs.Ordering.{handed_on}
 
-pub returns-in_err-outcome : goal.returns-in_err-outcome
-returns-in_err-outcome c = (
+pub returns-in_err-outcome-clause-answers : goal.returns-in_err-outcome-clause-answers
+returns-in_err-outcome-clause-answers c = (
   refused (refusal c.in_err-outcome.field-0.0),
   c.ask.new.tree,
   c.in_err-outcome.ensures,
-  ap line_of (handed_on c.from_residual.result c.from_residual.ensures.1),
+  ap (line_of c.args.printed.now) (handed_on c.from_residual.result c.from_residual.ensures.1),
 )

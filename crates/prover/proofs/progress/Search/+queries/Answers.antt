@@ -48,7 +48,7 @@ try_body-returns-clause-told t c =
     told_as _ _ [] s.out.now s.progress.len u.out.now u.progress.len c.query-2.result
     (λ o d. body_grown (setting_of s) f r c.head-head.result.index s.progress.count u.progress.count o (record { set = c.supposing-wider.result; begun = 0 })
     (c.supposing-wider.ensures.used c.requires.used ∙ ap (λ (S : ℕ). supposing (setting_of s).book S r) same)
-    (c.head-head.ensures.used c.requires.used) (λ e. grind (arith, nat_tests, e ∙ sym same, c.if-eq.ensures)) refl d)
+    (c.head-head.ensures.used c.requires.used) (λ e. grind (arith, nat_tests, e ∙ sym same, c.if-equals.ensures)) refl d)
     c.query-2.ensures.told
 
 -- ---- try_rule
