@@ -1,5 +1,4 @@
 pub mod MaskLaws
-pub mod Filled
 pub mod Lowest
 pub mod Each
 pub mod Members

@@ -10,18 +10,12 @@ use crate::bits::{bits_where, is_within};
 use crate::chart::Chart;
 use crate::limits::RELEASES;
 use book::{Bodies, Book, RECORDS, RecordNumber};
-use std::array;
 
 /// The set of the followers of `release`.
 fn followers_of<C: Chart>(chart: &C, release: usize) -> u64
     ensures { (v : ℕ) → bit result v ≡ (C.value chart.now).follows release v }
 {
-    let size = chart.size();
-    // Past the last release nothing follows, so nothing is asked.
-    if release >= size {
-        return 0;
-    }
-    bits_where(size, |later| chart.follows(release, later))
+    bits_where(chart.size(), |later| chart.follows(release, later))
 }
 
 /// The set of the releases that carry `number`.
@@ -35,7 +29,12 @@ fn carriers_of<C: Chart>(chart: &C, number: usize) -> u64
 fn rows<C: Chart>(chart: &C) -> [u64; RELEASES]
     ensures { Rows (C.value chart.now) result }
 {
-    array::from_fn(|release| followers_of(chart, release))
+    let mut words = [0; RELEASES];
+    // Only the chart's own releases are asked about.
+    for (release, word) in words[..chart.size()].iter_mut().enumerate() {
+        *word = followers_of(chart, release);
+    }
+    words
 }
 
 /// The set of the releases below `size` each of whose followers in `met` is in `carriers`.

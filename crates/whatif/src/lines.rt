@@ -22,8 +22,8 @@ impl<R: Read> Source<R> {
     /// The bytes that are still to be taken in, read on where there are none; none where the input ends.
     fn fill(&mut self) -> io::Result<&[u8]> {
         if self.at >= self.end {
-            self.at = 0;
             self.end = read_on(&mut self.reader, &mut self.bytes)?;
+            self.at = 0;
         }
         Ok(self.bytes.get(self.at..self.end).unwrap_or(&[]))
     }
